@@ -1,0 +1,4 @@
+pub mod Rounded
+pub mod Vectors
+pub mod Faults
+pub mod Walks
