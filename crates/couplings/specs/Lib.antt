@@ -1,0 +1,4 @@
+pub mod Coupling
+pub mod Rows
+pub mod Costs
+pub mod Nearness
