@@ -18,25 +18,8 @@ use Rattle.std.proofs.shelf.Tests.{cases-lt, cond-below}
 use Rattle.points.specs.declared.fault.Fault.{Fault}
 use Rattle.points.specs.declared.point.Point.{Point}
 use Rattle.points.specs.Faults.{placed}
-use Rattle.points.specs.Walks.{stepped}
+use Rattle.points.proofs.Walking.{past-none, drop-some}
 use Rattle.frechet.specs.Row.{Run, onto, cellOf, cellThen, cellAnd, rowFrom, rowOf, over, written}
-
--- the element at a place, if any, and what is left of the list
-pub within-some : {X : Type 0} (xs : List X) (j : ℕ) (x : X) → nth xs j ≡ Some x → j < length xs
-within-some xs j x e =
-    ⊎-elim (λ h. h) (λ h. let none = nth-past xs j h in let z : _≡_ {A = ℕ} 0 1 = cc in absurd (omega arith)) (cases-lt j (length xs))
-
-pub past-none : {X : Type 0} (xs : List X) (j : ℕ) → nth xs j ≡ None → length xs ≤ j
-past-none [] j e = omega arith
-past-none (x ∷ xs) j e =
-    ⊎-elim (λ h. let some = nth-getD (x ∷ xs) j x h in let z : _≡_ {A = ℕ} 0 1 = cc in absurd (omega arith)) (λ h. h) (cases-lt j (length (x ∷ xs)))
-
-pub drop-some : {X : Type 0} (xs : List X) (j : ℕ) (x : X) → nth xs j ≡ Some x → drop j xs ≡ x ∷ drop (j + 1) xs
-drop-some xs j x e =
-    let h = within-some xs j x e in
-    let read = nth-getD xs j x h in
-    let more = drop-more xs j x h in
-    cc
 
 onto-onto : (xs ys : List Float) (run : Run) → onto xs (onto ys run) ≡ onto (xs ++ ys) run
 onto-onto xs ys run = ap (λ l. record { cells = l; outcome = run .outcome }) (sym (append-assoc xs ys (run .cells)))
@@ -69,9 +52,6 @@ unread this other n cs start h =
     ⊎-elim
     (λ l. sym (drop-take other n (written this cs start)) ∙ ap (drop other) (take-putMid-below this (length cs) start cs (other + n) l h) ∙ drop-take other n start)
     (λ l. ap (take n) (drop-putMid this (length cs) start cs other l h refl))
-
-pub step-inside : {X : Type 0} (xs ys : List X) (n j : ℕ) → xs ≡ ys → n ≡ j → j < length ys → stepped xs n ≡ j + 1
-step-inside xs ys n j same at h = ap (stepped xs) at ∙ ap (λ l. stepped l j) same ∙ sym (cond-below j (length ys) (j + 1) j h)
 
 -- what a row leaves, and what it answers
 abbrev pub Ends : (Point → Result Float Fault) → List Float → ℕ → List Float → List Float → Result (Option Float) Fault → List Point → Type 0

@@ -1,4 +1,3 @@
-pub mod Placing
 pub mod Filling
 pub mod Halves
 pub mod Tabling

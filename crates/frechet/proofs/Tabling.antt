@@ -14,7 +14,7 @@ use Rattle.points.specs.declared.fault.Fault.{Fault}
 use Rattle.points.specs.declared.point.Point.{Point}
 use Rattle.frechet.specs.Row.{Run, rowOf, rowStart, written}
 use Rattle.frechet.specs.Table.{Rows, rowThen, rowsFrom}
-use Rattle.frechet.proofs.Filling.{drop-some}
+use Rattle.points.proofs.Walking.{drop-some}
 
 module _ (far : Point → Point → Result Float Fault) (ps qs : List Point) (k : ℕ) (above : List Float)
     (last : Option Float) (xs : List Float) where

@@ -1,1 +1,3 @@
 pub mod Reversed
+pub mod Walking
+pub mod Placing

@@ -11,8 +11,9 @@ use Rattle.std.specs.shelf.Maps.{nth}
 use Rattle.std.proofs.shelf.Results.{err-from-errBy}
 use Rattle.points.specs.declared.fault.Fault.{Fault}
 use Rattle.points.specs.declared.point.Point.{Point}
-use Rattle.frechet.proofs.Filling.{Ends, within-some, step-inside, begun, same-before, one-more, stopped, finished}
-use Rattle.frechet.proofs.Placing.{placed-ok, placed-err}
+use Rattle.points.proofs.Walking.{within-some, step-inside}
+use Rattle.frechet.proofs.Filling.{Ends, begun, same-before, one-more, stopped, finished}
+use Rattle.points.proofs.Placing.{placed-ok, placed-err}
 use Rattle.frechet.proofs.row.fill.Given as given
 use Rattle.frechet.proofs.row.fill.Needs as need
 use Rattle.frechet.proofs.row.fill.Needs.{In-Some}

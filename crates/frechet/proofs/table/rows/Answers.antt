@@ -14,7 +14,7 @@ use Rattle.points.specs.declared.fault.Fault.{Fault}
 use Rattle.points.specs.declared.point.Point.{Point}
 use Rattle.frechet.specs.Row.{rowOf, rowBefore, rowStart, written}
 use Rattle.frechet.specs.Table.{Rows, rowsFrom}
-use Rattle.frechet.proofs.Filling.{within-some, past-none, step-inside}
+use Rattle.points.proofs.Walking.{within-some, past-none, step-inside}
 use Rattle.frechet.proofs.Halves.{row-whole, next-before, half-room}
 use Rattle.frechet.proofs.Tabling.{none-left, one-less, row-stops}
 use Rattle.frechet.proofs.table.rows.Given as given

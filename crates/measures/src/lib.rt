@@ -1,0 +1,2 @@
+// Measures of a line.
+pub mod length;
