@@ -75,14 +75,20 @@ module _ (far : Point → Point → Result Float Fault) (ok : Point → Point �
 
     coupled : Coupled far X Y d
     coupled = record {
-      some = (near .0, near .1, λ p i.
-          let inside = each-in (length X) (length Y) (near .0) (near .1) p i in
-          subst (NoMore d) (sym (w .known (p .0) (p .1) (inside .0) (inside .1))) (near .2 p i));
+      some = (
+        near .0,
+        near .1,
+        λ p i.
+            let inside = each-in (length X) (length Y) (near .0) (near .1) p i in
+            subst (NoMore d) (sym (w .known (p .0) (p .1) (inside .0) (inside .1))) (near .2 p i),
+      );
       every = λ pairs c.
           let found = reached pairs c in
-          let inside = each-in (length X) (length Y) pairs c (found .0) (found .1) in
-          (found .0, found .1,
-          subst (NoLess d) (sym (w .known (found .0 .0) (found .0 .1) (inside .0) (inside .1))) (found .2));
+          let inside = each-in (length X) (length Y) pairs c (found .0) (found .1) in (
+            found .0,
+            found .1,
+            subst (NoLess d) (sym (w .known (found .0 .0) (found .0 .1) (inside .0) (inside .1))) (found .2),
+          );
     }
 
   pub least-over-couplings : (A B : List Point) (xs : List Float) (r : Result Float Fault) → r ≡ frechet far A B xs .result

@@ -45,9 +45,10 @@ split : (xs : List Float) (n : ℕ)
     → (drop n xs ≡ listed (nth xs n) ++ drop (n + 1) xs) × (nth xs n ≡ None → drop (n + 1) xs ≡ [])
 split xs n =
     ⊎-elim
-    (λ h. let e = nth-getD xs n nan h in
-    (drop-more xs n nan h ∙ sym (ap (λ v. listed v ++ drop (n + 1) xs) e),
-    λ z. let w : _≡_ {A = ℕ} 0 1 = cc in absurd (omega arith)))
+    (λ h. let e = nth-getD xs n nan h in (
+      drop-more xs n nan h ∙ sym (ap (λ v. listed v ++ drop (n + 1) xs) e),
+      λ z. let w : _≡_ {A = ℕ} 0 1 = cc in absurd (omega arith),
+    ))
     (λ h. let past = drop-all (n + 1) xs (omega arith) in
     (drop-all n xs h ∙ (sym past ∙ sym (ap (λ v. listed v ++ drop (n + 1) xs) (nth-past xs n h))), λ z. past))
     (cases-lt n (length xs))

@@ -17,7 +17,11 @@ fn room(cells: usize, count_1: usize, count_2: usize) -> Result<(), Cause>
     ensures { λ r. ⌜ r ≡ roomFor cells «count_1» «count_2» ⌝ }
 {
     let shorter = if count_1 <= count_2 { count_1 } else { count_2 };
-    if shorter <= cells / 2 { Ok(()) } else { Err(Cause::NoRoom) }
+    if shorter <= cells / 2 {
+        Ok(())
+    } else {
+        Err(Cause::NoRoom)
+    }
 }
 
 // What is known beforehand: how long the lines may be, and how many cells there are.

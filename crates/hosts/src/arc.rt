@@ -1,4 +1,5 @@
 // Arc sine and arc tangent of the series host.
+use crate::length::root;
 ghost use mathlib.Core.Path.{_≡_};
 ghost use Prim.Native.Nat.{_<_};
 ghost use Rattle.hosts.specs.Arc as Arc;
@@ -45,7 +46,7 @@ fn arc_sum(z: f64) -> f64
 fn half(v: f64) -> f64
     ensures { λ r. ⌜ r ≡ Arc.half v ⌝ }
 {
-    v / (1.0 + (1.0 + v * v).sqrt())
+    v / (1.0 + root(1.0 + v * v))
 }
 
 fn arc_within(v: f64) -> f64
@@ -74,7 +75,11 @@ fn angle(y: f64, x: f64) -> f64
     if 0.0 < x {
         arc(y / x)
     } else if x < 0.0 {
-        if 0.0 <= y { arc(y / x) + PI } else { arc(y / x) - PI }
+        if 0.0 <= y {
+            arc(y / x) + PI
+        } else {
+            arc(y / x) - PI
+        }
     } else if 0.0 < y {
         HALF_PI
     } else if y < 0.0 {
@@ -102,6 +107,6 @@ pub(crate) fn asin(x: f64) -> Option<f64>
     } else if 1.0 < x.abs() {
         Some(f64::NAN)
     } else {
-        Some(angle(x, ((1.0 - x) * (1.0 + x)).sqrt()))
+        Some(angle(x, root((1.0 - x) * (1.0 + x))))
     }
 }

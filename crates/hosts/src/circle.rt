@@ -75,12 +75,14 @@ pub(crate) fn sin(x: f64) -> Option<f64>
     if x.abs() <= FARTHEST {
         let q = quarters(x);
         let r = rest(x, q);
-        Some(match quadrant(q) {
-            0 => sine_part(r),
-            1 => cosine_part(r),
-            2 => -sine_part(r),
-            _ => -cosine_part(r),
-        })
+        Some(
+            match quadrant(q) {
+                0 => sine_part(r),
+                1 => cosine_part(r),
+                2 => -sine_part(r),
+                _ => -cosine_part(r),
+            },
+        )
     } else {
         None
     }
@@ -92,12 +94,14 @@ pub(crate) fn cos(x: f64) -> Option<f64>
     if x.abs() <= FARTHEST {
         let q = quarters(x);
         let r = rest(x, q);
-        Some(match quadrant(q) {
-            0 => cosine_part(r),
-            1 => -sine_part(r),
-            2 => -cosine_part(r),
-            _ => sine_part(r),
-        })
+        Some(
+            match quadrant(q) {
+                0 => cosine_part(r),
+                1 => -sine_part(r),
+                2 => -cosine_part(r),
+                _ => sine_part(r),
+            },
+        )
     } else {
         None
     }

@@ -1,7 +1,7 @@
 // The functions that a machine may lack, and two ways to have them.
-pub mod host;
-pub mod recorded;
 mod arc;
 mod circle;
+pub mod host;
 mod length;
+pub mod recorded;
 pub mod series;

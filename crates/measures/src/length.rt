@@ -38,7 +38,11 @@ fn total<S: Space, L: CoordsIter>(space: &S, line: &mut L) -> Result<f64, Fault>
 fn finite_total(total: f64) -> Result<f64, Cause>
     ensures { λ r. ⌜ r ≡ finiteTotal total ⌝ }
 {
-    if total.is_finite() { Ok(total) } else { Err(Cause::BadResult) }
+    if total.is_finite() {
+        Ok(total)
+    } else {
+        Err(Cause::BadResult)
+    }
 }
 
 pub fn length<S: Space, L: CoordsIter>(space: &S, line: &mut L) -> Result<f64, Fault>

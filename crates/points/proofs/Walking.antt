@@ -31,4 +31,3 @@ drop-some xs j x e =
 -- a step that is not at the end
 pub step-inside : {X : Type 0} (xs ys : List X) (n j : ℕ) → xs ≡ ys → n ≡ j → j < length ys → stepped xs n ≡ j + 1
 step-inside xs ys n j same at h = ap (stepped xs) at ∙ ap (λ l. stepped l j) same ∙ sym (cond-below j (length ys) (j + 1) j h)
-

@@ -7,7 +7,6 @@ use Rattle.std.specs.Floats as Floats
 
 infixl 20 _⊕_ _⊖_
 infixl 30 _⊗_ _⊘_
-
 abbrev pub _⊕_ : Float → Float → Float
 x ⊕ y = add binary64 x y
 

@@ -41,5 +41,9 @@ pub fn given_count<L: CoordsIter>(line: &L) -> Result<usize, Cause>
     ensures { λ r. ⌜ r ≡ fits (length (coords (now (line .entry)))) ⌝ }
 {
     let count = line.coords_count();
-    if count <= MOST_POINTS { Ok(count) } else { Err(Cause::NoRoom) }
+    if count <= MOST_POINTS {
+        Ok(count)
+    } else {
+        Err(Cause::NoRoom)
+    }
 }

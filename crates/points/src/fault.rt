@@ -65,14 +65,22 @@ impl Fault {
     pub fn new(cause: Cause, layer: Layer) -> Fault
         ensures { λ r. ⌜ r ≡ raised cause layer ⌝ }
     {
-        Fault { cause, layer, place: 0 }
+        Fault {
+            cause,
+            layer,
+            place: 0,
+        }
     }
 
     // The same fault, with the place that its caller knows.
     pub fn at(self, place: usize) -> Fault
         ensures { λ r. ⌜ r ≡ placed place self ⌝ }
     {
-        Fault { cause: self.cause, layer: self.layer, place }
+        Fault {
+            cause: self.cause,
+            layer: self.layer,
+            place,
+        }
     }
 }
 

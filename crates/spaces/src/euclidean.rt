@@ -42,20 +42,31 @@ fn both_admitted(start: Point, end: Point) -> Result<(), Fault>
 fn finite(number: f64) -> Result<(), Fault>
     ensures { λ r. ⌜ r ≡ Plane.is-finite number ⌝ }
 {
-    if number.is_finite() { Ok(()) } else { Err(Fault::new(Cause::NotFinite, Layer::Space)) }
+    if number.is_finite() {
+        Ok(())
+    } else {
+        Err(Fault::new(Cause::NotFinite, Layer::Space))
+    }
 }
 
 fn point_answer(p: Point) -> Result<Point, Fault>
     ensures { λ r. ⌜ r ≡ Plane.point-answer p ⌝ }
 {
-    if admitted(p) { Ok(p) } else { Err(Fault::new(Cause::BadResult, Layer::Space)) }
+    if admitted(p) {
+        Ok(p)
+    } else {
+        Err(Fault::new(Cause::BadResult, Layer::Space))
+    }
 }
 
 fn plane_pair(start: Point, end: Point) -> Result<PlanePair, Fault>
     ensures { λ r. ⌜ r ≡ Plane.paired start end ⌝ }
 {
     both_admitted(start, end)?;
-    Ok(PlanePair { start, way: end.sub(start) })
+    Ok(PlanePair {
+        start,
+        way: end.sub(start),
+    })
 }
 
 fn on_pair(pair: PlanePair, ratio: f64) -> Result<Point, Fault>
@@ -87,12 +98,22 @@ pub impl<H: Host> Space for Euclidean<H> as EuclideanSpace {
         distance_answer(length)
     }
 
-    fn point_at_ratio_between(&self, start: Point, end: Point, ratio_from_start: f64) -> Result<Point, Fault> {
+    fn point_at_ratio_between(
+        &self,
+        start: Point,
+        end: Point,
+        ratio_from_start: f64,
+    ) -> Result<Point, Fault> {
         finite(ratio_from_start)?;
         on_pair(plane_pair(start, end)?, ratio_from_start)
     }
 
-    fn point_at_distance_between(&self, start: Point, end: Point, distance_from_start: f64) -> Result<Point, Fault> {
+    fn point_at_distance_between(
+        &self,
+        start: Point,
+        end: Point,
+        distance_from_start: f64,
+    ) -> Result<Point, Fault> {
         finite(distance_from_start)?;
         both_admitted(start, end)?;
         let diff = end.sub(start);

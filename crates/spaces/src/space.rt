@@ -42,10 +42,20 @@ pub trait Space {
     fn distance(&self, origin: Point, destination: Point) -> Result<f64, Fault>
         ensures { λ r. ⌜ r ≡ far (now (self .entry)) origin destination ⌝ };
 
-    fn point_at_ratio_between(&self, start: Point, end: Point, ratio_from_start: f64) -> Result<Point, Fault>
+    fn point_at_ratio_between(
+        &self,
+        start: Point,
+        end: Point,
+        ratio_from_start: f64,
+    ) -> Result<Point, Fault>
         ensures { λ r. ⌜ r ≡ ratio (now (self .entry)) start end «ratio_from_start» ⌝ };
 
-    fn point_at_distance_between(&self, start: Point, end: Point, distance_from_start: f64) -> Result<Point, Fault>
+    fn point_at_distance_between(
+        &self,
+        start: Point,
+        end: Point,
+        distance_from_start: f64,
+    ) -> Result<Point, Fault>
         ensures { λ r. ⌜ r ≡ along (now (self .entry)) start end «distance_from_start» ⌝ };
 
     fn pair(&self, start: Point, end: Point) -> Result<Self::Pair, Fault>
@@ -67,7 +77,12 @@ pub(crate) fn distance_answer(distance: f64) -> Result<f64, Fault>
 }
 
 // Whether two points are at most `distance` apart.
-pub fn distance_within<S: Space>(space: &S, origin: Point, destination: Point, distance: f64) -> Result<bool, Fault>
+pub fn distance_within<S: Space>(
+    space: &S,
+    origin: Point,
+    destination: Point,
+    distance: f64,
+) -> Result<bool, Fault>
     ensures { λ r. ⌜ r ≡ within (far (now (space .entry)) origin destination) distance ⌝ }
 {
     if !distance.is_finite() {

@@ -77,8 +77,7 @@ loop-q-again g c =
     let read = c .cell-at-up .ensures ∙ ap (λ l. nth l (c .loop-q .j)) (before g s) in
     let more = one-more far above (g .L·CoordsIter .coords (c .rewind .last .self)) (c .args .this) (c .args .cells .now)
     (c .loop-q .inv .3) (c .in-Some .q) (c .in-Continue-distance .distance) (c .cell-at-up .result)
-    (c .cell-value .result) read (c .cell-value .ensures) (here g s) (sym (c .distance .ensures) ∙ ok) (room g s) in
-    (
+    (c .cell-value .result) read (c .cell-value .ensures) (here g s) (sym (c .distance .ensures) ∙ ok) (room g s) in (
       c .advance .ensures .same ∙ c .loop-q .inv .0,
       c .advance .ensures .next ∙ step-inside _ _ _ _ (c .loop-q .inv .0) (c .loop-q .inv .1) h,
       omega arith,

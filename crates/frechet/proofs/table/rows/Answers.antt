@@ -87,8 +87,7 @@ loop-p-again g c =
     let room : rowStart k (length qs) ≤ length xs = half-room k (length qs) (length xs) (omega (arith, c .pre, c .loop-p .kept .cells)) in
     let before = ap (rowBefore (k + 1) (length qs)) cells ∙ next-before k (length qs) (rowOf (far p) above qs .cells) xs full room in
     let left = sym (one-less far ps qs k above (c .loop-p .last) xs p (here g s) l out) ∙ c .loop-p .inv .4 in
-    let h = inside g s in
-    (
+    let h = inside g s in (
       c .advance .ensures .same ∙ c .loop-p .inv .0,
       told .line ∙ same,
       c .advance .ensures .next ∙ step-inside _ _ _ _ (c .loop-p .inv .0) (c .loop-p .inv .2) h,

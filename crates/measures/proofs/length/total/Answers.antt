@@ -34,8 +34,7 @@ loop-end-holds g c =
     let first = c .rewind .ensures .first in
     let same = c .advance .ensures .same in
     let here : nth (g .L·CoordsIter .coords (c .advance .last .self)) 0 ≡ Some (c .in-Some .start) = cc in
-    let inside : 0 < length (g .L·CoordsIter .coords (c .advance .last .self)) = within-some _ 0 (c .in-Some .start) here in
-    (
+    let inside : 0 < length (g .L·CoordsIter .coords (c .advance .last .self)) = within-some _ 0 (c .in-Some .start) here in (
       refl,
       c .advance .ensures .next ∙ step-inside _ _ _ 0 (sym same) first inside,
       omega arith,
@@ -85,13 +84,12 @@ loop-end-again g c =
     let h = inside g s in
     let d = c .in-Continue-distance .distance in
     let ok : atPlace (far (c .loop-end .start) (c .in-Some-current .end)) (c .loop-end .pair) ≡ Ok (c .in-Continue-distance .distance) =
-    ap (λ r. atPlace r (c .loop-end .pair)) (sym (c .distance .ensures)) ∙ sym (c .at-place .ensures) ∙ c .in-Continue-distance .was tt in
-    (
+    ap (λ r. atPlace r (c .loop-end .pair)) (sym (c .distance .ensures)) ∙ sym (c .at-place .ensures) ∙ c .in-Continue-distance .was tt in (
       c .advance-in-Some-current .ensures .same ∙ c .loop-end .inv .0,
       c .advance-in-Some-current .ensures .next ∙ step-inside _ _ _ _ (c .loop-end .inv .0) (c .loop-end .inv .1) h,
       omega arith,
       sym (total-more far ps (c .loop-end .pair) (c .loop-end .sum) (c .loop-end .start) (c .in-Some-current .end) (here g s) d ok)
-      ∙ c .loop-end .inv .3,
+          ∙ c .loop-end .inv .3,
     )
 
 pub returns : need.returns
@@ -104,5 +102,5 @@ returns g c =
     record {
       line = c .loop-end .inv .0 ∙ same;
       total = sym (total-all far ps (c .loop-end .pair) (c .loop-end .sum) (c .loop-end .start) (past-none ps (c .loop-end .pair) none))
-      ∙ c .loop-end .inv .3 ∙ ap (totalOf far) same;
+          ∙ c .loop-end .inv .3 ∙ ap (totalOf far) same;
     }

@@ -1,0 +1,5 @@
+pub mod HexLaws
+pub mod Runs
+pub mod Parts
+pub mod Numbers
+pub mod Requests
