@@ -5,3 +5,4 @@ pub mod Order
 pub mod Values
 pub mod Told
 pub mod Couplings
+pub mod Fresh

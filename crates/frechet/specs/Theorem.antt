@@ -59,3 +59,8 @@ NearnessPasses far =
     → ((a b c : Point) → Among a A → Among b B → Among c C
     → NoMore r (far a b) → NoMore s (far b c) → NoMore t (far a c))
     → T (le u t)
+
+-- the answer is the same whatever the cells held
+abbrev pub WhateverCellsHeld : (Point → Point → Result Float Fault) → List Point → List Point → List Float
+    → Result Float Fault → Type 0
+WhateverCellsHeld far A B cells r = (held : List Float) → length held ≡ length cells → frechet far A B held .result ≡ r

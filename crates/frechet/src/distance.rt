@@ -11,7 +11,7 @@ ghost use mathlib.Core.Path.{_≡_};
 ghost use Prim.Native.Nat.{_*_, _≤_};
 ghost use lib.ListN.{length};
 ghost use Rattle.frechet.specs.Table.{frechet, tabled, answerOf, allowed, roomFor};
-ghost use Rattle.frechet.specs.Theorem.{LeastOverCouplings, NearnessPasses};
+ghost use Rattle.frechet.specs.Theorem.{LeastOverCouplings, NearnessPasses, WhateverCellsHeld};
 
 fn room(cells: usize, count_1: usize, count_2: usize) -> Result<(), Cause>
     ensures { λ r. ⌜ r ≡ roomFor cells «count_1» «count_2» ⌝ }
@@ -95,6 +95,7 @@ pub fn frechet_distance<S: Space, A: CoordsIter, B: CoordsIter>(
     ensures second { λ _. ⌜ B·CoordsIter .coords (now («ls_2» .exit)) ≡ B·CoordsIter .coords (now («ls_2» .entry)) ⌝ }
     ensures cells { λ _. ⌜ now (cells .exit) ≡ frechet (far (now (space .entry))) (A·CoordsIter .coords (now («ls_1» .entry))) (B·CoordsIter .coords (now («ls_2» .entry))) (now (cells .entry)) .cells ⌝ }
     ensures result { λ r. ⌜ r ≡ frechet (far (now (space .entry))) (A·CoordsIter .coords (now («ls_1» .entry))) (B·CoordsIter .coords (now («ls_2» .entry))) (now (cells .entry)) .result ⌝ }
+    ensures fresh { λ r. ⌜ WhateverCellsHeld (far (now (space .entry))) (A·CoordsIter .coords (now («ls_1» .entry))) (B·CoordsIter .coords (now («ls_2» .entry))) (now (cells .entry)) r ⌝ }
     ensures couplings { λ r. ⌜ LeastOverCouplings (far (now (space .entry))) (A·CoordsIter .coords (now («ls_1» .entry))) (B·CoordsIter .coords (now («ls_2» .entry))) r ⌝ }
     ensures nearness { λ _. ⌜ NearnessPasses (far (now (space .entry))) ⌝ }
 {

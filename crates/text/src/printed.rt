@@ -34,7 +34,7 @@ pub fn bits_line(heap: Global, letter: Letter, bits: u64) -> Result<String, Allo
 }
 
 // The answer to a line that spells no request, with the line's number.
-pub fn malformed_line(heap: Global, number: u32) -> Result<String, AllocError>
+pub fn malformed_line(heap: Global, number: usize) -> Result<String, AllocError>
     ensures { λ r. ⌜ made r (λ s. string-bytes s ≡ malformedText number) ⌝ }
 {
     format!(heap, "? 14 {number}")

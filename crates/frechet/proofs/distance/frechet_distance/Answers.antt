@@ -1,6 +1,8 @@
+use mathlib.Core.Path.{sym, _∙_}
 use mathlib.Core.Bool.{_&&_}
 use Rattle.points.specs.declared.point.Point.{Point}
 use Rattle.frechet.proofs.Couplings.{least-over-couplings, nearness as nearness-passes-on}
+use Rattle.frechet.proofs.Fresh.{fresh}
 use Rattle.frechet.proofs.distance.frechet_distance.Needs as need
 
 pub returns : need.returns
@@ -14,6 +16,7 @@ returns g c =
       second = c .compare .ensures .second;
       cells = c .compare .ensures .cells;
       result = c .compare .ensures .result;
+      fresh = λ held e. fresh far (g .A·CoordsIter .coords (c .args .ls-1 .now)) (g .B·CoordsIter .coords (c .args .ls-2 .now)) (c .args .cells .now) held e ∙ sym (c .compare .ensures .result);
       couplings = least-over-couplings far ok law _ _ _ (c .compare .result) (c .compare .ensures .result);
       nearness = nearness-passes-on far ok law;
     }

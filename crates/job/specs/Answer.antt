@@ -1,0 +1,46 @@
+-- What each line of a job is answered, by the grammar: in both directions.
+use mathlib.Core.Path.{_≡_}
+use mathlib.Core.List.{List}
+use mathlib.Core.Logic.{_⊎_}
+use Prim.Native.Nat.{ℕ}
+use Rattle.std.specs.declared.result.Result.{Result}
+use Rattle.std.specs.declared.result.Result.the-variants.{Ok, Err}
+use Rattle.points.specs.declared.fault.Cause.the-variants.{Malformed}
+use Rattle.points.specs.declared.fault.Fault.{Fault}
+use Rattle.points.specs.declared.fault.Layer.the-variants as layers
+use Rattle.points.specs.Faults.{raised, placed}
+use Rattle.text.specs.Grammar.{RequestAt, Unspelled}
+use Rattle.text.specs.Lines.{Inside, part}
+use Rattle.text.specs.Printed.{malformedText}
+use Rattle.text.specs.declared.request.Request.{Request}
+use Rattle.job.specs.Reply.{Kept, replyTo}
+
+-- no request is spelled by the bytes from `from` up to `to`
+abbrev pub NoRequest : List ℕ → ℕ → ℕ → Type 0
+NoRequest bytes from to = Inside bytes from to → Unspelled (part bytes from to)
+
+-- the request that the line spells, or the fault of a malformed line, which tells the line's number
+abbrev pub Requested : List ℕ → ℕ → ℕ → ℕ → Result Request Fault → Type 0
+Requested bytes from to number (Ok q) = RequestAt bytes from to q
+Requested bytes from to number (Err f) = NoRequest bytes from to × (f ≡ placed number (raised Malformed layers.Job))
+
+-- what is printed for a request, and kept after it
+pub record Replies (old : Kept) (q : Request) (printed : List ℕ) (new : Kept) : Type 0 where
+  pub text : printed ≡ replyTo old q .printed
+  pub kept : new ≡ replyTo old q .kept
+
+-- the line spells a request, and is answered so
+pub record Asked (bytes : List ℕ) (from to : ℕ) (old : Kept) (printed : List ℕ) (new : Kept) : Type 0 where
+  pub request : Request
+  pub spelled : RequestAt bytes from to request
+  pub answered : Replies old request printed new
+
+-- the line spells none: its number is told, and nothing changes
+pub record Refused (bytes : List ℕ) (from to number : ℕ) (old : Kept) (printed : List ℕ) (new : Kept) : Type 0 where
+  pub unspelled : NoRequest bytes from to
+  pub text : printed ≡ malformedText number
+  pub kept : new ≡ old
+
+abbrev pub Answered : List ℕ → ℕ → ℕ → ℕ → Kept → List ℕ → Kept → Type 0
+Answered bytes from to number old printed new =
+    Asked bytes from to old printed new ⊎ Refused bytes from to number old printed new

@@ -1,0 +1,54 @@
+// Reads a job from standard input and prints a line for each of its lines.
+use job::job::Job;
+use std::io;
+use std::io::Read;
+use text::lines::next_line;
+use text::printed::malformed_line;
+ghost use Prim.Native.Nat.{_≤_};
+ghost use lib.ListN.{length};
+ghost use Rattle.std.specs.Vec.{made};
+
+// The longest job, in bytes.
+const LONGEST_JOB: usize = 60_000;
+
+// Reads until the buffer is full or the input ends, and tells how much was read.
+fn fill(input: &mut impl Read, buffer: &mut [u8]) -> io::Result<usize>
+    ensures { λ r. ⌜ made r (λ n. n ≤ length (now (buffer .entry))) ⌝ }
+{
+    let mut count = 0;
+    for _ in 0..buffer.len() {
+        let more = input.read(&mut buffer[count..])?;
+        if more == 0 {
+            break;
+        }
+        count += more;
+    }
+    Ok(count)
+}
+
+fn run(rt: &LibcRuntime, text: &[u8]) -> io::Result<()> {
+    let heap = rt.alloc();
+    let mut job = Job::new(heap);
+    let mut at = 0;
+    for number in 1..=LONGEST_JOB {
+        let Some(line) = next_line(text, at) else {
+            break;
+        };
+        let printed = job.answer(heap, text, line, number)?;
+        println!(rt, "{printed}")?;
+        at = line.end + 1;
+    }
+    Ok(())
+}
+
+fn main(rt: LibcRuntime) -> io::Result<()> {
+    let heap = rt.alloc();
+    let mut buffer = vec![in heap; 0u8; LONGEST_JOB + 1]?;
+    let mut input = rt.stdin();
+    let count = fill(&mut input, &mut buffer)?;
+    if count > LONGEST_JOB {
+        let printed = malformed_line(heap, 0)?;
+        return println!(rt, "{printed}");
+    }
+    run(&rt, &buffer[0..count])
+}
