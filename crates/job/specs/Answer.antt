@@ -1,8 +1,10 @@
 -- What each line of a job is answered, by the grammar: in both directions.
 use mathlib.Core.Path.{_≡_}
+use mathlib.Core.Bool.{cond}
 use mathlib.Core.List.{List}
 use mathlib.Core.Logic.{_⊎_}
 use Prim.Native.Nat.{ℕ}
+use lib.Dec.{leb}
 use Rattle.std.specs.declared.result.Result.{Result}
 use Rattle.std.specs.declared.result.Result.the-variants.{Ok, Err}
 use Rattle.points.specs.declared.fault.Cause.the-variants.{Malformed}
@@ -14,6 +16,10 @@ use Rattle.text.specs.Lines.{Inside, part}
 use Rattle.text.specs.Printed.{malformedText}
 use Rattle.text.specs.declared.request.Request.{Request}
 use Rattle.job.specs.Reply.{Kept, replyTo}
+
+-- a job has at most 60,000 bytes; a longer one is malformed as a whole, at no line
+abbrev pub lengthAllowed : ℕ → Result (Unit {0}) Fault
+lengthAllowed bytes = cond (leb bytes 60000) (Ok tt) (Err (raised Malformed layers.Job))
 
 -- no request is spelled by the bytes from `from` up to `to`
 abbrev pub NoRequest : List ℕ → ℕ → ℕ → Type 0

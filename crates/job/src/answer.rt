@@ -37,10 +37,24 @@ ghost use Rattle.job.specs.Reply.{
   distanceText,
   replyTo,
 };
-ghost use Rattle.job.specs.Answer.{Requested, Replies, Answered};
+ghost use Rattle.job.specs.Answer.{lengthAllowed, Requested, Replies, Answered};
+
+// The longest job, in bytes.
+pub const LONGEST_JOB: usize = 60_000;
 
 // The most points that a reference has.
 const MOST_REFERENCE_POINTS: usize = 1_000;
+
+// Whether a job may have so many bytes; a longer one is malformed as a whole, at no line.
+pub fn check_length(bytes: usize) -> Result<(), Fault>
+    ensures { λ r. ⌜ r ≡ lengthAllowed bytes ⌝ }
+{
+    if bytes <= LONGEST_JOB {
+        Ok(())
+    } else {
+        Err(Fault::new(Cause::Malformed, Layer::Job))
+    }
+}
 
 fn point_of(x: u64, y: u64) -> Point
     ensures { λ r. ⌜ r ≡ pointOf x y ⌝ }

@@ -1,4 +1,6 @@
 // Reads a job from standard input and prints a line for each of its lines.
+use job::answer::LONGEST_JOB;
+use job::answer::check_length;
 use job::job::Job;
 use std::io;
 use std::io::Read;
@@ -7,9 +9,6 @@ use text::printed::malformed_line;
 ghost use Prim.Native.Nat.{_≤_};
 ghost use lib.ListN.{length};
 ghost use Rattle.std.specs.Vec.{made};
-
-// The longest job, in bytes.
-const LONGEST_JOB: usize = 60_000;
 
 // Reads until the buffer is full or the input ends, and tells how much was read.
 fn fill(input: &mut impl Read, buffer: &mut [u8]) -> io::Result<usize>
@@ -43,12 +42,15 @@ fn run(rt: &LibcRuntime, text: &[u8]) -> io::Result<()> {
 
 fn main(rt: LibcRuntime) -> io::Result<()> {
     let heap = rt.alloc();
+    // One byte more than a job may have, so that a longer one is seen.
     let mut buffer = vec![in heap; 0u8; LONGEST_JOB + 1]?;
     let mut input = rt.stdin();
     let count = fill(&mut input, &mut buffer)?;
-    if count > LONGEST_JOB {
-        let printed = malformed_line(heap, 0)?;
-        return println!(rt, "{printed}");
+    match check_length(count) {
+        Ok(()) => run(&rt, &buffer[0..count]),
+        Err(fault) => {
+            let printed = malformed_line(heap, fault.place)?;
+            println!(rt, "{printed}")
+        }
     }
-    run(&rt, &buffer[0..count])
 }
