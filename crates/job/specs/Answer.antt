@@ -11,39 +11,39 @@ use Rattle.points.specs.declared.fault.Cause.the-variants.{Malformed}
 use Rattle.points.specs.declared.fault.Fault.{Fault}
 use Rattle.points.specs.declared.fault.Layer.the-variants as layers
 use Rattle.points.specs.Faults.{raised, placed}
-use Rattle.text.specs.Grammar.{RequestAt, Unspelled}
+use Rattle.text.specs.Grammar.{CommandAt, Unspelled}
 use Rattle.text.specs.Lines.{Inside, part}
 use Rattle.text.specs.Printed.{malformedText}
-use Rattle.text.specs.declared.request.Request.{Request}
+use Rattle.text.specs.declared.command.Command.{Command}
 use Rattle.job.specs.Reply.{Kept, replyTo}
 
 -- a job has at most 60,000 bytes; a longer one is malformed as a whole, at no line
 abbrev pub lengthAllowed : ℕ → Result (Unit {0}) Fault
 lengthAllowed bytes = cond (leb bytes 60000) (Ok tt) (Err (raised Malformed layers.Job))
 
--- no request is spelled by the bytes from `from` up to `to`
-abbrev pub NoRequest : List ℕ → ℕ → ℕ → Type 0
-NoRequest bytes from to = Inside bytes from to → Unspelled (part bytes from to)
+-- no command is spelled by the bytes from `from` up to `to`
+abbrev pub NoCommand : List ℕ → ℕ → ℕ → Type 0
+NoCommand bytes from to = Inside bytes from to → Unspelled (part bytes from to)
 
--- the request that the line spells, or the fault of a malformed line, which tells the line's number
-abbrev pub Requested : List ℕ → ℕ → ℕ → ℕ → Result Request Fault → Type 0
-Requested bytes from to number (Ok q) = RequestAt bytes from to q
-Requested bytes from to number (Err f) = NoRequest bytes from to × (f ≡ placed number (raised Malformed layers.Job))
+-- the command that the line spells, or the fault of a malformed line, which tells the line's number
+abbrev pub CommandOrFault : List ℕ → ℕ → ℕ → ℕ → Result Command Fault → Type 0
+CommandOrFault bytes from to number (Ok q) = CommandAt bytes from to q
+CommandOrFault bytes from to number (Err f) = NoCommand bytes from to × (f ≡ placed number (raised Malformed layers.Job))
 
--- what is printed for a request, and kept after it
-pub record Replies (old : Kept) (q : Request) (printed : List ℕ) (new : Kept) : Type 0 where
+-- what is printed for a command, and kept after it
+pub record Replies (old : Kept) (q : Command) (printed : List ℕ) (new : Kept) : Type 0 where
   pub text : printed ≡ replyTo old q .printed
   pub kept : new ≡ replyTo old q .kept
 
--- the line spells a request, and is answered so
+-- the line spells a command, and is answered so
 pub record Asked (bytes : List ℕ) (from to : ℕ) (old : Kept) (printed : List ℕ) (new : Kept) : Type 0 where
-  pub request : Request
-  pub spelled : RequestAt bytes from to request
-  pub answered : Replies old request printed new
+  pub command : Command
+  pub spelled : CommandAt bytes from to command
+  pub answered : Replies old command printed new
 
 -- the line spells none: its number is told, and nothing changes
 pub record Refused (bytes : List ℕ) (from to number : ℕ) (old : Kept) (printed : List ℕ) (new : Kept) : Type 0 where
-  pub unspelled : NoRequest bytes from to
+  pub unspelled : NoCommand bytes from to
   pub text : printed ≡ malformedText number
   pub kept : new ≡ old
 

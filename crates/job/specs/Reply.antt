@@ -1,4 +1,4 @@
--- What a job keeps, and what each request is answered.
+-- What a job keeps, and what each command is answered.
 use mathlib.Core.Bool.{cond, _&&_}
 use mathlib.Core.List.{List, [], _∷_, _++_}
 use Prim.Native.Nat.{ℕ, _*_, min}
@@ -22,8 +22,8 @@ use Rattle.frechet.specs.Table.{frechet}
 use Rattle.text.specs.Printed.{statusText, bitsText}
 use Rattle.text.specs.declared.printed.Letter.{Letter}
 use Rattle.text.specs.declared.printed.Letter.the-variants as letters
-use Rattle.text.specs.declared.request.Request.{Request}
-use Rattle.text.specs.declared.request.Request.the-variants.{Reference, Append, Compare}
+use Rattle.text.specs.declared.command.Command.{Command}
+use Rattle.text.specs.declared.command.Command.the-variants.{Reference, Append, Compare}
 use Rattle.job.specs.declared.job.Job.{Job}
 
 -- the reference, and the planned line
@@ -69,7 +69,7 @@ abbrev pub done : Letter → Result (Unit {0}) Fault → Kept → Kept → Reply
 done l (Ok _) old new = record { printed = statusText l 0; kept = new }
 done l (Err f) old new = record { printed = statusText l (numberOf (f .cause)); kept = old }
 
-abbrev pub replyTo : Kept → Request → Reply
+abbrev pub replyTo : Kept → Command → Reply
 replyTo k (Reference x y) =
     done letters.R (referenceRoom (length (k .reference)) (pointOf x y)) k
     (record { reference = k .reference ++ pointOf x y ∷ []; planned = k .planned })

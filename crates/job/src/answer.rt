@@ -15,13 +15,13 @@ use std::alloc::AllocError;
 use std::alloc::Global;
 use std::num::f64_from_bits_with_nan;
 use std::num::f64_to_bits_with_nan;
+use text::command::Command;
+use text::command::read_command;
 use text::lines::Line;
 use text::printed::Letter;
 use text::printed::bits_line;
 use text::printed::malformed_line;
 use text::printed::status_line;
-use text::request::Request;
-use text::request::read_request;
 ghost use mathlib.Core.Path.{_≡_};
 ghost use Rattle.std.specs.Of.String.{string-bytes};
 ghost use Rattle.std.specs.Of.Vec.{vec-items, vec-len};
@@ -37,7 +37,7 @@ ghost use Rattle.job.specs.Reply.{
   distanceText,
   replyTo,
 };
-ghost use Rattle.job.specs.Answer.{lengthAllowed, Requested, Replies, Answered};
+ghost use Rattle.job.specs.Answer.{lengthAllowed, CommandOrFault, Replies, Answered};
 
 // The longest job, in bytes.
 pub const LONGEST_JOB: usize = 60_000;
@@ -98,11 +98,11 @@ fn distance(planned: &[Point], reference: &[Point], cells: &mut [f64]) -> Result
 }
 
 // What the line asks for, or the fault that tells its number.
-fn requested(text: &[u8], line: Line, number: usize) -> Result<Request, Fault>
-    ensures { λ r. ⌜ Requested (now (text .entry)) (line .start) (line .end) number r ⌝ }
+fn command_of(text: &[u8], line: Line, number: usize) -> Result<Command, Fault>
+    ensures { λ r. ⌜ CommandOrFault (now (text .entry)) (line .start) (line .end) number r ⌝ }
 {
-    match read_request(text, line.start, line.end) {
-        Some(request) => Ok(request),
+    match read_command(text, line.start, line.end) {
+        Some(command) => Ok(command),
         None => Err(Fault::new(Cause::Malformed, Layer::Job).at(number)),
     }
 }
@@ -110,7 +110,7 @@ fn requested(text: &[u8], line: Line, number: usize) -> Result<Request, Fault>
 impl Job {
     // The text is made before anything is kept, so that want of memory changes nothing.
     fn add_reference(&mut self, heap: Global, x: u64, y: u64) -> Result<String, AllocError>
-        ensures { λ r. ⌜ Cases r (λ s. Replies (keptBy (now (self .entry))) (Request.Reference x y) (string-bytes s) (keptBy (now (self .exit)))) (λ _. keptBy (now (self .exit)) ≡ keptBy (now (self .entry))) ⌝ }
+        ensures { λ r. ⌜ Cases r (λ s. Replies (keptBy (now (self .entry))) (Command.Reference x y) (string-bytes s) (keptBy (now (self .exit)))) (λ _. keptBy (now (self .exit)) ≡ keptBy (now (self .entry))) ⌝ }
     {
         let p = point_of(x, y);
         match reference_takes(self.reference.len(), p) {
@@ -124,7 +124,7 @@ impl Job {
     }
 
     fn append(&mut self, heap: Global, x: u64, y: u64) -> Result<String, AllocError>
-        ensures { λ r. ⌜ Cases r (λ s. Replies (keptBy (now (self .entry))) (Request.Append x y) (string-bytes s) (keptBy (now (self .exit)))) (λ _. keptBy (now (self .exit)) ≡ keptBy (now (self .entry))) ⌝ }
+        ensures { λ r. ⌜ Cases r (λ s. Replies (keptBy (now (self .entry))) (Command.Append x y) (string-bytes s) (keptBy (now (self .exit)))) (λ _. keptBy (now (self .exit)) ≡ keptBy (now (self .entry))) ⌝ }
     {
         let p = point_of(x, y);
         match finite(p) {
@@ -152,13 +152,13 @@ impl Job {
         }
     }
 
-    fn reply(&mut self, heap: Global, request: Request) -> Result<String, AllocError>
-        ensures { λ r. ⌜ Cases r (λ s. Replies (keptBy (now (self .entry))) request (string-bytes s) (keptBy (now (self .exit)))) (λ _. keptBy (now (self .exit)) ≡ keptBy (now (self .entry))) ⌝ }
+    fn reply(&mut self, heap: Global, command: Command) -> Result<String, AllocError>
+        ensures { λ r. ⌜ Cases r (λ s. Replies (keptBy (now (self .entry))) command (string-bytes s) (keptBy (now (self .exit)))) (λ _. keptBy (now (self .exit)) ≡ keptBy (now (self .entry))) ⌝ }
     {
-        match request {
-            Request::Reference(x, y) => self.add_reference(heap, x, y),
-            Request::Append(x, y) => self.append(heap, x, y),
-            Request::Compare => self.compare(heap),
+        match command {
+            Command::Reference(x, y) => self.add_reference(heap, x, y),
+            Command::Append(x, y) => self.append(heap, x, y),
+            Command::Compare => self.compare(heap),
         }
     }
 
@@ -173,8 +173,8 @@ impl Job {
     ) -> Result<String, AllocError>
         ensures { λ r. ⌜ Cases r (λ s. Answered (now (text .entry)) (line .start) (line .end) number (keptBy (now (self .entry))) (string-bytes s) (keptBy (now (self .exit)))) (λ _. keptBy (now (self .exit)) ≡ keptBy (now (self .entry))) ⌝ }
     {
-        match requested(text, line, number) {
-            Ok(request) => self.reply(heap, request),
+        match command_of(text, line, number) {
+            Ok(command) => self.reply(heap, command),
             Err(fault) => malformed_line(heap, fault.place),
         }
     }

@@ -2,4 +2,4 @@ pub mod HexLaws
 pub mod Runs
 pub mod Parts
 pub mod Numbers
-pub mod Requests
+pub mod Commands

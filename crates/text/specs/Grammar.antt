@@ -1,4 +1,4 @@
--- Defines the words of a line, and the requests with the line that spells each.
+-- Defines the words of a line, and the commands with the line that spells each.
 use mathlib.Core.Path.{_≡_}
 use mathlib.Core.List.{List, [], _∷_, _++_}
 use Prim.Native.Nat.{ℕ, _+_, _<_, _^_}
@@ -8,8 +8,8 @@ use Rattle.text.specs.Hex.{hexText}
 use Rattle.text.specs.Lines.{Inside, part, front}
 use Rattle.text.specs.declared.words.Word.{Word}
 use Rattle.text.specs.declared.words.Word.the-variants.{Letter, Number}
-use Rattle.text.specs.declared.request.Request.{Request}
-use Rattle.text.specs.declared.request.Request.the-variants.{Reference, Append, Compare}
+use Rattle.text.specs.declared.command.Command.{Command}
+use Rattle.text.specs.declared.command.Command.the-variants.{Reference, Append, Compare}
 
 -- the bytes of a word
 abbrev pub wordBytes : Word → List ℕ
@@ -59,24 +59,24 @@ abbrev pub NoNumber : List ℕ → ℕ → ℕ → Type 0
 NoNumber bytes from to =
     (n : ℕ) → n < 2 ^ 64 → (rest : List ℕ) → Parted rest → part bytes from to ≡ spaced n ++ rest → ⊥
 
--- the numbers of a request have 64 bits
-abbrev pub Sized : Request → Type 0
+-- the numbers of a command have 64 bits
+abbrev pub Sized : Command → Type 0
 Sized (Reference x y) = (x < 2 ^ 64) × (y < 2 ^ 64)
 Sized (Append x y) = (x < 2 ^ 64) × (y < 2 ^ 64)
 Sized Compare = Unit {0}
 
--- the line of each request: R x y, A x y, and C
-abbrev pub spelled : Request → List ℕ
+-- the line of each command: R x y, A x y, and C
+abbrev pub spelled : Command → List ℕ
 spelled (Reference x y) = codes "R" ++ spaced x ++ spaced y
 spelled (Append x y) = codes "A" ++ spaced x ++ spaced y
 spelled Compare = codes "C"
 
--- the line spells no request
+-- the line spells no command
 abbrev pub Unspelled : List ℕ → Type 0
-Unspelled line = (q : Request) → Sized q → spelled q ≡ line → ⊥
+Unspelled line = (q : Command) → Sized q → spelled q ≡ line → ⊥
 
--- q is the request that the line from `from` up to `to` spells
-pub record RequestAt (bytes : List ℕ) (from to : ℕ) (q : Request) : Type 0 where
+-- q is the command that the line from `from` up to `to` spells
+pub record CommandAt (bytes : List ℕ) (from to : ℕ) (q : Command) : Type 0 where
   pub inside : Inside bytes from to
   pub sized : Sized q
   pub whole : spelled q ≡ part bytes from to

@@ -7,7 +7,7 @@ use Rattle.text.specs.Grammar.{spaced}
 use Rattle.text.specs.declared.printed.Letter.{Letter}
 use Rattle.text.specs.declared.printed.Letter.the-variants.{R, A, C}
 
--- the letter of a request
+-- the letter of a command
 abbrev pub letterText : Letter → List ℕ
 letterText R = codes "R"
 letterText A = codes "A"
@@ -17,7 +17,7 @@ letterText C = codes "C"
 abbrev pub statusText : Letter → ℕ → List ℕ
 statusText l n = letterText l ++ codes " " ++ decimal n
 
--- the answer to a line that spells no request: `? 14 `, and a number in decimal
+-- the answer to a line that spells no command: `? 14 `, and a number in decimal
 abbrev pub malformedText : ℕ → List ℕ
 malformedText n = codes "? 14 " ++ decimal n
 

@@ -1,6 +1,6 @@
 // Reads texts of lines, each of words parted by one space, and writes the lines that answer them.
+pub mod command;
 pub mod hex;
 pub mod lines;
 pub mod printed;
-pub mod request;
 pub mod words;

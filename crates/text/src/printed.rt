@@ -8,7 +8,7 @@ use crate::hex::bits_text;
 use std::alloc::AllocError;
 use std::alloc::Global;
 
-// The letter of the request that a line answers.
+// The letter of the command that a line answers.
 #[derive(Clone, Copy)]
 pub enum Letter {
     R,
@@ -33,7 +33,7 @@ pub fn bits_line(heap: Global, letter: Letter, bits: u64) -> Result<String, Allo
     format!(heap, "{name} {digits}")
 }
 
-// The answer to a line that spells no request, with the line's number.
+// The answer to a line that spells no command, with the line's number.
 pub fn malformed_line(heap: Global, number: usize) -> Result<String, AllocError>
     ensures { λ r. ⌜ made r (λ s. string-bytes s ≡ malformedText number) ⌝ }
 {

@@ -1,6 +1,6 @@
 use Rattle.text.specs.Grammar.{spaced}
 use Rattle.text.proofs.Numbers.{after-number}
-use Rattle.text.proofs.request.two_numbers.Needs as need
+use Rattle.text.proofs.command.two_numbers.Needs as need
 
 pub returns-in-Break-y : need.returns-in-Break-y
 returns-in-Break-y c =

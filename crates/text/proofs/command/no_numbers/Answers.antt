@@ -1,5 +1,5 @@
 use Rattle.text.proofs.Parts.{part-none}
-use Rattle.text.proofs.request.no_numbers.Needs as need
+use Rattle.text.proofs.command.no_numbers.Needs as need
 
 pub returns-else-at-end : need.returns-else-at-end
 returns-else-at-end c bytes inside e =

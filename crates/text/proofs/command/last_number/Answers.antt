@@ -2,7 +2,7 @@ use mathlib.Core.Path.{sym, _∙_}
 use mathlib.Core.List.{[], append-nil}
 use Rattle.text.specs.Grammar.{spaced}
 use Rattle.text.proofs.Numbers.{after-number}
-use Rattle.text.proofs.request.last_number.Needs as need
+use Rattle.text.proofs.command.last_number.Needs as need
 
 pub returns-in-Break-n : need.returns-in-Break-n
 returns-in-Break-n c =

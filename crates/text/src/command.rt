@@ -1,27 +1,27 @@
-// The requests of a job, one to a line: `R x y`, `A x y` and `C`.
+// The commands of a job, one to a line: `R x y`, `A x y` and `C`.
 ghost use mathlib.Core.Path.{_≡_};
 ghost use mathlib.Core.List.{List, [], _∷_, _++_};
 ghost use Prim.Native.Nat.{ℕ, _^_, _<_};
 ghost use Rattle.std.specs.Options.{Cases as BySome};
 ghost use Rattle.text.specs.Lines.{Inside, part};
-ghost use Rattle.text.specs.Grammar.{Sized, spelled, spaced, Unspelled, RequestAt};
+ghost use Rattle.text.specs.Grammar.{Sized, spelled, spaced, Unspelled, CommandAt};
 use crate::words::Word;
 use crate::words::number_at;
 use crate::words::read_word;
 
 // What a line asks for; its numbers are words of 64 bits.
 #[derive(Clone, Copy)]
-pub enum Request {
+pub enum Command {
     Reference(u64, u64),
     Append(u64, u64),
     Compare,
 }
 
-// The request that the line from `start` up to `end` spells.
-pub fn read_request(job: &[u8], start: usize, end: usize) -> Option<Request>
+// The command that the line from `start` up to `end` spells.
+pub fn read_command(job: &[u8], start: usize, end: usize) -> Option<Command>
     ensures { λ r. ⌜ BySome r
         (Inside (now (job .entry)) start end → Unspelled (part (now (job .entry)) start end))
-        (λ q. RequestAt (now (job .entry)) start end q) ⌝ }
+        (λ q. CommandAt (now (job .entry)) start end q) ⌝ }
 {
     match read_word(job, start, end)? {
         Word::Letter(name, _) => dispatch(name[0] as char, job, start + 1, end),
@@ -29,8 +29,8 @@ pub fn read_request(job: &[u8], start: usize, end: usize) -> Option<Request>
     }
 }
 
-// The request with this letter, whose numbers stand from `at` up to `end`.
-fn dispatch(letter: char, job: &[u8], at: usize, end: usize) -> Option<Request>
+// The command with this letter, whose numbers stand from `at` up to `end`.
+fn dispatch(letter: char, job: &[u8], at: usize, end: usize) -> Option<Command>
     ensures { λ r. ⌜ BySome r
         (Inside (now (job .entry)) at end → Unspelled (letter ∷ part (now (job .entry)) at end))
         (λ q. Sized q × (spelled q ≡ letter ∷ part (now (job .entry)) at end)) ⌝ }
@@ -38,15 +38,15 @@ fn dispatch(letter: char, job: &[u8], at: usize, end: usize) -> Option<Request>
     match letter {
         'R' => {
             let (x, y) = two_numbers(job, at, end)?;
-            Some(Request::Reference(x, y))
+            Some(Command::Reference(x, y))
         }
         'A' => {
             let (x, y) = two_numbers(job, at, end)?;
-            Some(Request::Append(x, y))
+            Some(Command::Append(x, y))
         }
         'C' => {
             no_numbers(at, end)?;
-            Some(Request::Compare)
+            Some(Command::Compare)
         }
         _ => None,
     }

@@ -3,8 +3,8 @@ use native.Mathlib.Omega.{arith}
 use lib.ListN.{length}
 use Rattle.text.specs.Lines.{part}
 use Rattle.text.specs.Grammar.{WordAt}
-use Rattle.text.proofs.Requests.{spelled-letter, by-letter}
-use Rattle.text.proofs.request.read_request.Needs as need
+use Rattle.text.proofs.Commands.{spelled-letter, by-letter}
+use Rattle.text.proofs.command.read_command.Needs as need
 
 pub returns-in-Letter : need.returns-in-Letter
 returns-in-Letter c =

@@ -1,0 +1,13 @@
+pub mod Segments
+pub mod Places
+pub mod Moves
+pub mod Ends
+pub mod Zeroth
+pub mod Steps
+pub mod Appending
+pub mod Undoing
+pub mod Settling
+pub mod Finite
+pub mod Orders
+pub mod Positions
+pub mod Lines

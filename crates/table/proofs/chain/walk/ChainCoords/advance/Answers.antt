@@ -1,0 +1,32 @@
+use mathlib.Core.Path.{refl, sym, ap, _∙_}
+use Prim.Native.Nat.{_+_, _≤_}
+use native.Mathlib.Omega.{arith}
+use lib.Dec.{ltb}
+use lib.ListN.{length}
+use Rattle.std.proofs.shelf.Tests.{cond-below, cond-false, le-ltb}
+use Rattle.table.specs.Chains.{at}
+use Rattle.table.specs.Lines.{lineFrom}
+use Rattle.table.proofs.Positions.{index-more, length-line}
+use Rattle.table.proofs.chain.walk.ChainCoords.advance.Needs as need
+
+pub ghost-self : need.ghost-self
+ghost-self c =
+    let line = c .args .self .now in
+    let t = line .table .now in
+    let next = ap (λ r. r .next) (c .record-at .ensures ∙ ap (at t) (line .stands)) in
+    (line .inside, (next ∙ sym (index-more t (line .first) (line .at)), tt))
+
+pub returns-then-self : need.returns-then-self
+returns-then-self c =
+    let line = c .args .self .now in
+    let n = length (lineFrom (line .table .now) (line .count) (line .first)) in
+    let l = length-line (line .table .now) (line .count) (line .first) in
+    record { same = refl; next = cond-below (line .at) n _ _ (omega (arith, l, c .if-self .taken)) }
+
+pub returns-else-self : need.returns-else-self
+returns-else-self c =
+    let line = c .args .self .now in
+    let n = length (lineFrom (line .table .now) (line .count) (line .first)) in
+    let l = length-line (line .table .now) (line .count) (line .first) in
+    let past : n ≤ line .at = omega (arith, l, c .if-self .left) in
+    record { same = refl; next = sym (cond-false (ltb (line .at) n) (line .at + 1) (line .at) (le-ltb (line .at) n past)) }

@@ -1,0 +1,10 @@
+pub mod Numbers
+pub mod Chains
+pub mod Whole
+pub mod Links
+pub mod Lines
+pub mod Outcomes
+pub mod Format
+pub mod Append
+pub mod Undo
+pub mod Settle

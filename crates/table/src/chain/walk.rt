@@ -1,0 +1,84 @@
+// A table's chain as a line source.
+use crate::Head;
+use crate::Record;
+use crate::chain::Chain;
+use crate::links::record_at;
+use crate::whole::check;
+use points::coords::CoordsIter;
+use points::point::Point;
+ghost use denote.Ref.{now};
+ghost use mathlib.Core.List.{[]};
+ghost use mathlib.Core.Path.{_≡_};
+ghost use Prim.Native.Nat.{ℕ, _<_};
+ghost use lib.ListN.{length};
+ghost use Rattle.table.specs.Chains.{at as recordAt, indexAt};
+ghost use Rattle.table.specs.Lines.{lineFrom, keptLine, pointIn};
+ghost use Rattle.table.specs.Whole.{Checked};
+
+fn point_at(table: &[Record], index: u16) -> Point
+    requires { ⌜ index < length (now table) ⌝ }
+    ensures { λ r. ⌜ r ≡ pointIn (recordAt (now (table .entry)) index) ⌝ }
+{
+    Point {
+        x: table[index as usize].x,
+        y: table[index as usize].y,
+    }
+}
+
+impl<'a> Chain<'a> {
+    // The kept points, and none where the table is refused.
+    pub fn new(table: &'a [Record], head: &Head) -> Chain<'a>
+        ensures kept { λ r. ⌜ (Checked (now (table .entry)) (now (head .entry)) → lineFrom (now (r .table)) (r .count) (r .first) ≡ keptLine (now (table .entry)) (now (head .entry))) ⌝ }
+        ensures refused { λ r. ⌜ ((Checked (now (table .entry)) (now (head .entry)) → ⊥) → lineFrom (now (r .table)) (r .count) (r .first) ≡ []) ⌝ }
+        ensures first { λ r. ⌜ r .at ≡ 0 ⌝ }
+    {
+        match check(table, head) {
+            Ok(()) => Chain::from(table, head.first, head.count),
+            Err(_) => Chain::from(table, 0, 0),
+        }
+    }
+
+    fn from(table: &'a [Record], first: u16, count: u16) -> Chain<'a>
+        requires { ⌜ ((k : ℕ) → k < count → indexAt (now table) first k < length (now table)) ⌝ }
+        ensures coords { λ r. ⌜ lineFrom (now (r .table)) (r .count) (r .first) ≡ lineFrom (now (table .entry)) count first ⌝ }
+        ensures first { λ r. ⌜ r .at ≡ 0 ⌝ }
+    {
+        Chain {
+            table,
+            first,
+            count,
+            at: 0,
+            here: first,
+        }
+    }
+}
+
+pub impl CoordsIter for Chain<'_> as ChainCoords {
+    ghost coords = { λ line. lineFrom (now (line .table)) (line .count) (line .first) };
+
+    ghost position = { λ line. line .at };
+
+    fn coords_count(&self) -> usize {
+        self.count as usize
+    }
+
+    fn rewind(&mut self) {
+        self.at = 0;
+        self.here = self.first;
+    }
+
+    fn current(&self) -> Option<Point> {
+        if self.at < self.count {
+            Some(point_at(self.table, self.here))
+        } else {
+            None
+        }
+    }
+
+    fn advance(&mut self) {
+        if self.at < self.count {
+            self.here = record_at(self.table, self.here).next;
+            self.at += 1;
+        }
+    }
+}
