@@ -56,7 +56,8 @@ module _ (far : Point → Point → Result Float Fault) (ok : Point → Point �
   all-measured A B a b i j = value-measured (ok a b) (far a b) (law a b)
 
   -- what was told of X and Y, in the words of couplings
-  module _ (X Y : List Point) (d : Float) (hx : 0 < length X) (hy : 0 < length Y) (w : Told far zero X Y d) where
+  module _ (X Y : List Point) (d : Float) (hx : 0 < length X) (hy : 0 < length Y)
+      (w : Told far zero X Y d) where
     near : Near measure X Y d
     near = subst (Near measure X Y) (w .is) (coupling-bound measure X Y hx hy (all-measured X Y) .0)
 
@@ -91,7 +92,8 @@ module _ (far : Point → Point → Result Float Fault) (ok : Point → Point �
           );
     }
 
-  pub least-over-couplings : (A B : List Point) (xs : List Float) (r : Result Float Fault) → r ≡ frechet far A B xs .result
+  pub least-over-couplings : (A B : List Point) (xs : List Float) (r : Result Float Fault)
+      → r ≡ frechet far A B xs .result
       → LeastOverCouplings far A B r
   least-over-couplings A B xs (Err f) e = tt
   least-over-couplings A B xs (Ok d) e =
@@ -119,11 +121,13 @@ module _ (far : Point → Point → Result Float Fault) (ok : Point → Point �
         let x = among-index a X i in
         let y = among-index b Y j in
         subst (λ (v : Point). far a v ≡ Ok (valueOf (far a v))) (y .2)
-        (subst (λ (v : Point). far v (getD Y (y .0) nowhere) ≡ Ok (valueOf (far v (getD Y (y .0) nowhere)))) (x .2)
+        (subst (λ (v : Point). far v (getD Y (y .0) nowhere) ≡ Ok (valueOf (far v (getD Y (y .0) nowhere))))
+        (x .2)
         (w .known (x .0) (y .0) (x .1) (y .1)));
     least = λ t n.
         let found = reached X Y d hx hy w (n .0) (n .1) in
-        le-any d (apartIn measure X Y (found .0)) t (is-measured X Y d hx hy w) (value-measured _ (far _ _) (law _ _))
+        le-any d (apartIn measure X Y (found .0)) t (is-measured X Y d hx hy w)
+        (value-measured _ (far _ _) (law _ _))
         (found .2) (n .2 (found .0) (found .1));
   }
 
@@ -137,16 +141,20 @@ module _ (far : Point → Point → Result Float Fault) (ok : Point → Point �
   says-of : (A B : List Point) (xs : List Float) (d : Float) → 0 < length A → 0 < length B → Mutual far A B
       → frechet far A B xs .result ≡ Ok d → Says A B d
   says-of A B xs d ha hb m e =
-      go (leb (length A) (length B)) (longer-some A B ha hb) (shorter-some A B ha hb) (told far zero A B xs d ha hb e)
+      go (leb (length A) (length B)) (longer-some A B ha hb) (shorter-some A B ha hb)
+      (told far zero A B xs d ha hb e)
     where
-      go : (t : Bool) → 0 < length (cond t B A) → 0 < length (cond t A B) → Told far zero (cond t B A) (cond t A B) d
+      go : (t : Bool) → 0 < length (cond t B A) → 0 < length (cond t A B)
+          → Told far zero (cond t B A) (cond t A B) d
           → Says A B d
       go true hx hy w = says-back B A d (mutual-back A B m) (says B A d hx hy w)
       go false hx hy w = says A B d hx hy w
 
-  says-either : (A B : List Point) (d : Float) → 0 < length A → 0 < length B → Mutual far A B → Answers far A B d → Says A B d
+  says-either : (A B : List Point) (d : Float) → 0 < length A → 0 < length B → Mutual far A B
+      → Answers far A B d → Says A B d
   says-either A B d ha hb m (xs, inl e) = says-of A B xs d ha hb m e
-  says-either A B d ha hb m (xs, inr e) = says-back B A d (mutual-back A B m) (says-of B A xs d hb ha (mutual-back A B m) e)
+  says-either A B d ha hb m (xs, inr e) = says-back B A d (mutual-back A B m)
+      (says-of B A xs d hb ha (mutual-back A B m) e)
 
   pub nearness : NearnessPasses far
   nearness A B C r s u t ha hb hc mab mbc mac ab bc ac tri =

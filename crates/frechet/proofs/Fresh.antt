@@ -29,7 +29,8 @@ module _ (far : Point → Point → Result Float Fault) (Y : List Point) where
       → rowsFrom far k above last X Y xs .last ≡ rowsFrom far k above last X Y ys .last
   rows-same k above last [] xs ys = refl
   rows-same k above last (p ∷ ps) xs ys =
-      then-same (rowOf (far p) above Y .outcome) (written (rowStart k (length Y)) (rowOf (far p) above Y .cells) xs)
+      then-same (rowOf (far p) above Y .outcome) (written (rowStart k (length Y))
+      (rowOf (far p) above Y .cells) xs)
       (written (rowStart k (length Y)) (rowOf (far p) above Y .cells) ys)
       (λ l us. rowsFrom far (k + 1) (rowOf (far p) above Y .cells) l ps Y us)
       (λ l us vs. rows-same (k + 1) (rowOf (far p) above Y .cells) l ps us vs)
@@ -42,7 +43,8 @@ unless-same (Ok u) xs ys n m e = e
 module _ (far : Point → Point → Result Float Fault) (A B : List Point) where
   -- what is compared once it is allowed
   abbrev rest : Bool → List Float → Compared
-  rest empty xs = cond empty (record { result = Ok zero64; cells = xs }) (tabled far (longer A B) (shorter A B) xs)
+  rest empty xs = cond empty (record { result = Ok zero64; cells = xs })
+      (tabled far (longer A B) (shorter A B) xs)
 
   rest-same : (empty : Bool) (xs ys : List Float) → rest empty xs .result ≡ rest empty ys .result
   rest-same true xs ys = refl
@@ -53,5 +55,6 @@ module _ (far : Point → Point → Result Float Fault) (A B : List Point) where
   fresh xs held e =
       let none = eqb (min (length A) (length B)) 0 in
       ap (λ n. unless (inLayer (allowed (length A) (length B) n) Line) held (rest none held) .result) e
-      ∙ unless-same (inLayer (allowed (length A) (length B) (length xs)) Line) held xs (rest none held) (rest none xs)
+      ∙ unless-same (inLayer (allowed (length A) (length B) (length xs)) Line) held xs (rest none held)
+      (rest none xs)
       (rest-same none held xs)

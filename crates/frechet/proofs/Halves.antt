@@ -24,22 +24,28 @@ pub record Whole (qs : List Point) (left : Option Float) (l : Option Float) (run
   pub full : length (run .cells) ≡ length qs
   pub ends : l ≡ lastFrom left (run .cells)
 
-more-whole : (n : ℕ) (q : Point) (qs : List Point) (left l : Option Float) (r : Result Float Fault) (cell : Float → Float) (go : Float → Run) →
+more-whole : (n : ℕ) (q : Point) (qs : List Point) (left l : Option Float) (r : Result Float Fault)
+    (cell : Float → Float) (go : Float → Run) →
     ((c : Float) → go c .outcome ≡ Ok l → Whole qs (Some c) l (go c)) →
-    cellThen n r (λ d. cellAnd (cell d) go) .outcome ≡ Ok l → Whole (q ∷ qs) left l (cellThen n r (λ d. cellAnd (cell d) go))
+    cellThen n r (λ d. cellAnd (cell d) go) .outcome ≡ Ok l
+    → Whole (q ∷ qs) left l (cellThen n r (λ d. cellAnd (cell d) go))
 more-whole n q qs left l (Err f) cell go ih e = let z : _≡_ {A = ℕ} 0 1 = cc in absurd (omega arith)
 more-whole n q qs left l (Ok d) cell go ih e =
     let w = ih (cell d) e in
     record { full = ap suc (w .full); ends = w .ends }
 
-pub row-whole : (far : Point → Result Float Fault) (above : List Float) (n : ℕ) (diagonal left l : Option Float) (qs : List Point) → rowFrom far above n diagonal left qs .outcome ≡ Ok l → Whole qs left l (rowFrom far above n diagonal left qs)
+pub row-whole : (far : Point → Result Float Fault) (above : List Float) (n : ℕ)
+    (diagonal left l : Option Float) (qs : List Point) → rowFrom far above n diagonal left qs .outcome ≡ Ok l
+    → Whole qs left l (rowFrom far above n diagonal left qs)
 row-whole far above n diagonal left l [] e = record { full = refl; ends = cc }
 row-whole far above n diagonal left l (q ∷ qs) e =
-    more-whole n q qs left l (far q) (λ d. cellOf d (nth above n) diagonal left) (λ c. rowFrom far above (n + 1) (nth above n) (Some c) qs)
+    more-whole n q qs left l (far q) (λ d. cellOf d (nth above n) diagonal left)
+    (λ c. rowFrom far above (n + 1) (nth above n) (Some c) qs)
     (λ c. row-whole far above (n + 1) (nth above n) (Some c) l qs) e
 
 -- the row that was written last is the row before the next
-pub next-before : (k s : ℕ) (cs xs : List Float) → length cs ≡ s → rowStart k s ≤ length xs → rowBefore (k + 1) s (written (rowStart k s) cs xs) ≡ cs
+pub next-before : (k s : ℕ) (cs xs : List Float) → length cs ≡ s → rowStart k s ≤ length xs
+    → rowBefore (k + 1) s (written (rowStart k s) cs xs) ≡ cs
 next-before k s cs xs full room =
     let n = rowStart k s in
     let not0 : eqb (k + 1) 0 ≡ false = ne-eqb (k + 1) 0 (λ e. omega arith) in

@@ -77,7 +77,8 @@ not-before (fin false m e) nan p q h = absurd q
 not-before (fin false m e) (inf s) p q h = absurd q
 not-before (fin false m e) (fin true n d) p q h = absurd q
 not-before (fin false m e) (fin false n d) p q h =
-    at-most (n * up d * down e) (m * up e * down d) (nltb→le (m * up e * down d) (n * up d * down e) (subst (λ (t : Bool). T (not t)) (sym h) tt))
+    at-most (n * up d * down e) (m * up e * down d)
+    (nltb→le (m * up e * down d) (n * up d * down e) (subst (λ (t : Bool). T (not t)) (sym h) tt))
 
 pub floats-ordered : Ordered Float measured le lt
 floats-ordered = record { same = same; on = on; before = before; not-before = not-before }
@@ -111,12 +112,14 @@ le-flip nan n d p h = absurd p
 le-flip (inf s) n d p h = absurd p
 le-flip (fin true m e) n d p h = absurd p
 le-flip (fin false m e) n d p h =
-    let q = eqb→eq (m * up e * down d) (n * up d * down e) (and-l (eqb (m * up e * down d) (n * up d * down e)) (eqb (m * up e * down d) 0) h) in
+    let q = eqb→eq (m * up e * down d) (n * up d * down e)
+    (and-l (eqb (m * up e * down d) (n * up d * down e)) (eqb (m * up e * down d) 0) h) in
     at-most (m * up e * down d) (n * up d * down e) (omega (arith, q))
 
 positive : (n : ℕ) (d e : ℤ) → n * up d * down e ≡ 0 → n ≡ 0
 positive zero d e h = refl
-positive (suc n) d e h = let k : 0 < suc n * up d * down e = mul-pos (mul-pos (zero-lt-suc n) (up-pos d)) (down-pos e) in absurd (omega (arith, h, k))
+positive (suc n) d e h = let k : 0 < suc n * up d * down e = mul-pos (mul-pos (zero-lt-suc n) (up-pos d))
+    (down-pos e) in absurd (omega (arith, h, k))
 
 neg-zero : (x : Float) (n : ℕ) (d : ℤ) → T (measured x) → T (le x (fin true n d)) → n ≡ 0
 unfolding le lt eq
@@ -124,8 +127,10 @@ neg-zero nan n d p h = absurd p
 neg-zero (inf s) n d p h = absurd p
 neg-zero (fin true m e) n d p h = absurd p
 neg-zero (fin false m e) n d p h =
-    let a = eqb→eq (m * up e * down d) (n * up d * down e) (and-l (eqb (m * up e * down d) (n * up d * down e)) (eqb (m * up e * down d) 0) h) in
-    let b = eqb→eq (m * up e * down d) 0 (and-r (eqb (m * up e * down d) (n * up d * down e)) (eqb (m * up e * down d) 0) h) in
+    let a = eqb→eq (m * up e * down d) (n * up d * down e)
+    (and-l (eqb (m * up e * down d) (n * up d * down e)) (eqb (m * up e * down d) 0) h) in
+    let b = eqb→eq (m * up e * down d) 0 (and-r (eqb (m * up e * down d) (n * up d * down e))
+    (eqb (m * up e * down d) 0) h) in
     positive n d e (sym a ∙ b)
 
 both : (a b : Bool) → a ≡ true → b ≡ true → T (a && b)
@@ -133,16 +138,19 @@ both true true p q = tt
 both true false p q = subst T (sym q) tt
 both false b p q = subst T (sym p) tt
 
-le-back : (x : Float) (n : ℕ) (d : ℤ) → T (measured x) → n ≡ 0 → T (le x (fin false n d)) → T (le x (fin true n d))
+le-back : (x : Float) (n : ℕ) (d : ℤ) → T (measured x) → n ≡ 0 → T (le x (fin false n d))
+    → T (le x (fin true n d))
 unfolding le lt eq
 le-back nan n d p z h = absurd p
 le-back (inf s) n d p z h = absurd p
 le-back (fin true m e) n d p z h = absurd p
 le-back (fin false m e) n d p z h =
     let most = is-most (m * up e * down d) (n * up d * down e) h in
-    let none : n * up d * down e ≡ 0 = ap (λ v. v * up d * down e) z ∙ (ap (λ v. v * down e) (zero-mul (up d)) ∙ zero-mul (down e)) in
+    let none : n * up d * down e ≡ 0 = ap (λ v. v * up d * down e) z
+    ∙ (ap (λ v. v * down e) (zero-mul (up d)) ∙ zero-mul (down e)) in
     both (eqb (m * up e * down d) (n * up d * down e)) (eqb (m * up e * down d) 0)
-    (eq-eqb (m * up e * down d) (n * up d * down e) (omega (arith, most, none))) (eq-eqb (m * up e * down d) 0 (omega (arith, most, none)))
+    (eq-eqb (m * up e * down d) (n * up d * down e) (omega (arith, most, none)))
+    (eq-eqb (m * up e * down d) 0 (omega (arith, most, none)))
 
 -- what is at most a distance that is at most t is at most t, whatever float t is
 pub le-any : (u x t : Float) → T (measured u) → T (measured x) → T (le u x) → T (le x t) → T (le u t)

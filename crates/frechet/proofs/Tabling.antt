@@ -22,7 +22,8 @@ module _ (far : Point → Point → Result Float Fault) (ps qs : List Point) (k 
   abbrev pub left : Rows
   left = rowsFrom far k above last (drop k ps) qs xs
 
-  pub none-left : length ps ≤ k → rowsFrom far k above last (drop k ps) qs xs ≡ record { last = Ok last; cells = xs }
+  pub none-left : length ps ≤ k → rowsFrom far k above last (drop k ps) qs xs
+      ≡ record { last = Ok last; cells = xs }
   none-left h = ap (λ l. rowsFrom far k above last l qs xs) (drop-all k ps h)
 
   module _ (p : Point) (at : nth ps k ≡ Some p) where

@@ -27,7 +27,8 @@ use Rattle.frechet.proofs.Halves.{row-whole}
 use Rattle.frechet.proofs.Values.{valueOf, row-values, row-asked, last-some, last-is}
 
 -- the distances from X to Y, and d
-pub record Told (far : Point → Point → Result Float Fault) (z : Float) (X Y : List Point) (d : Float) : Type 0 where
+pub record Told (far : Point → Point → Result Float Fault) (z : Float) (X Y : List Point)
+    (d : Float) : Type 0 where
   pub known : (i j : ℕ) → i < length X → j < length Y
       → far (getD X i nowhere) (getD Y j nowhere) ≡ Ok (valueOf (far (getD X i nowhere) (getD Y j nowhere)))
   pub is : answer lt z (λ a b. valueOf (far a b)) X Y ≡ d
@@ -61,15 +62,21 @@ module _ (far : Point → Point → Result Float Fault) (Y : List Point) where
       pick : Come (rowOf (far p) above Y .cells) ps l
           → ((j : ℕ) → j < length Y → far p (getD Y j nowhere) ≡ Ok (valueOf (far p (getD Y j nowhere))))
           → (i j : ℕ) → i < length (p ∷ ps) → j < length Y
-          → far (getD (p ∷ ps) i nowhere) (getD Y j nowhere) ≡ Ok (valueOf (far (getD (p ∷ ps) i nowhere) (getD Y j nowhere)))
+          → far (getD (p ∷ ps) i nowhere) (getD Y j nowhere) ≡ Ok
+          (valueOf (far (getD (p ∷ ps) i nowhere) (getD Y j nowhere)))
       pick rest asked zero j hi hj = asked j hj
       pick rest asked (suc i) j hi hj = rest .known i j (omega arith) hj
 
   come : (k : ℕ) (above : List Float) (last l : Option Float) (X : List Point) (xs : List Float)
       → last ≡ lastFrom None above → rowsFrom far k above last X Y xs .last ≡ Ok l → Come above X l
-  come k above last l [] xs h e = record { known = λ i j hi hj. absurd (omega arith); last = let s : last ≡ l = cc in sym s ∙ h }
+  come k above last l [] xs h e = record {
+    known = λ i j hi hj. absurd (omega arith);
+    last = let s : last
+        ≡ l = cc in sym s ∙ h;
+  }
   come k above last l (p ∷ ps) xs h e =
-      one k above p ps (written (rowStart k (length Y)) (rowOf (far p) above Y .cells) xs) l (rowOf (far p) above Y .outcome)
+      one k above p ps (written (rowStart k (length Y)) (rowOf (far p) above Y .cells) xs) l
+      (rowOf (far p) above Y .outcome)
       refl (λ m ys g f. come (k + 1) (rowOf (far p) above Y .cells) m l ps ys g f) e
 
 -- with points on both lines there is a last cell
@@ -77,11 +84,13 @@ some-last : (cs : List Float) → 0 < length cs → lastFrom None cs ≡ None �
 some-last [] h e = omega arith
 some-last (c ∷ cs) h e = let s = last-some c cs in let z : _≡_ {A = ℕ} 0 1 = cc in omega arith
 
-rows-long : (d : Point → Point → Float) (Y : List Point) (above : List Float) (X : List Point) → length above ≡ length Y
+rows-long : (d : Point → Point → Float) (Y : List Point) (above : List Float) (X : List Point)
+    → length above ≡ length Y
     → length (rows lt (λ v. v) (larger lt) d Y above X) ≡ length Y
 rows-long d Y above [] e = e
 rows-long d Y above (x ∷ xs) e =
-    rows-long d Y (row lt (λ v. v) (larger lt) d x [] Y above) xs (row-length lt (λ v. v) (larger lt) d x [] Y above)
+    rows-long d Y (row lt (λ v. v) (larger lt) d x [] Y above) xs
+    (row-length lt (λ v. v) (larger lt) d x [] Y above)
 
 no-rows : (d : Point → Point → Float) (X Y : List Point) → 0 < length X → 0 < length Y
     → lastFrom None (rows lt (λ v. v) (larger lt) d Y [] X) ≡ None → ⊥
@@ -96,7 +105,8 @@ answered : (far : Point → Point → Result Float Fault) (z : Float) (X Y : Lis
     (r : Result (Option Float) Fault) → 0 < length X → 0 < length Y
     → ((l : Option Float) → r ≡ Ok l → Come far Y [] X l) → answerOf r ≡ Ok d → Told far z X Y d
 answered far z X Y d (Err f) hx hy k e = let w : _≡_ {A = ℕ} 0 1 = cc in absurd (omega arith)
-answered far z X Y d (Ok None) hx hy k e = absurd (no-rows (λ a b. valueOf (far a b)) X Y hx hy (sym (k None refl .last)))
+answered far z X Y d (Ok None) hx hy k e = absurd (no-rows (λ a b. valueOf (far a b)) X Y hx hy
+    (sym (k None refl .last)))
 answered far z X Y d (Ok (Some v)) hx hy k e =
     let c = k (Some v) refl in
     let s : v ≡ d = cc in
@@ -106,22 +116,27 @@ answered far z X Y d (Ok (Some v)) hx hy k e =
     }
 
 pub longer-some : (A B : List Point) → 0 < length A → 0 < length B → 0 < length (longer A B)
-longer-some A B ha hb = elim (leb (length A) (length B)) as (λ v. 0 < length (cond v B A)) [ true ↦ hb | false ↦ ha ]
+longer-some A B ha hb = elim (leb (length A) (length B)) as
+    (λ v. 0 < length (cond v B A)) [ true ↦ hb | false ↦ ha ]
 
 pub shorter-some : (A B : List Point) → 0 < length A → 0 < length B → 0 < length (shorter A B)
-shorter-some A B ha hb = elim (leb (length A) (length B)) as (λ v. 0 < length (cond v A B)) [ true ↦ ha | false ↦ hb ]
+shorter-some A B ha hb = elim (leb (length A) (length B)) as
+    (λ v. 0 < length (cond v A B)) [ true ↦ ha | false ↦ hb ]
 
-allowed-on : (r : Result (Unit {0}) Fault) (xs : List Float) (next : Compared) (d : Float) → unless r xs next .result ≡ Ok d
+allowed-on : (r : Result (Unit {0}) Fault) (xs : List Float) (next : Compared) (d : Float)
+    → unless r xs next .result ≡ Ok d
     → next .result ≡ Ok d
 allowed-on (Err f) xs next d e = let z : _≡_ {A = ℕ} 0 1 = cc in absurd (omega arith)
 allowed-on (Ok u) xs next d e = e
 
-pub told : (far : Point → Point → Result Float Fault) (z : Float) (A B : List Point) (xs : List Float) (d : Float)
+pub told : (far : Point → Point → Result Float Fault) (z : Float) (A B : List Point) (xs : List Float)
+    (d : Float)
     → 0 < length A → 0 < length B → frechet far A B xs .result ≡ Ok d → Told far z (longer A B) (shorter A B) d
 told far z A B xs d ha hb e =
     let X : List Point = longer A B in
     let Y : List Point = shorter A B in
-    let some : eqb (min (length A) (length B)) 0 ≡ false = ne-eqb (min (length A) (length B)) 0 (λ z. omega (arith, z, ha, hb)) in
+    let some : eqb (min (length A) (length B)) 0 ≡ false = ne-eqb (min (length A) (length B)) 0
+    (λ z. omega (arith, z, ha, hb)) in
     let none : Compared = record { result = Ok zero64; cells = xs } in
     let next = allowed-on (inLayer (allowed (length A) (length B) (length xs)) Line) xs
     (cond (eqb (min (length A) (length B)) 0) none (tabled far X Y xs)) d e in

@@ -70,11 +70,13 @@ module _ (far : Point → Point → Result Float Fault) (p : Point) where
   at n q qs g l o (Err f) er up rest none go ih e = let z : _≡_ {A = ℕ} 0 1 = cc in absurd (omega arith)
   at n q qs g l o (Ok d) er (Some u) rest none go ih e =
       ap (λ v. cellOf d (Some u) g l ∷ v) (ih (cellOf d (Some u) g l) e)
-      ∙ ap (λ v. cellOf (valueOf v) (Some u) g l ∷ rowBy (u ∷ cellOf (valueOf v) (Some u) g l ∷ []) qs rest) (sym er)
+      ∙ ap (λ v. cellOf (valueOf v) (Some u) g l ∷ rowBy (u ∷ cellOf (valueOf v) (Some u) g l ∷ []) qs rest)
+      (sym er)
   at n q qs g l o (Ok d) er None rest none go ih e =
       ap (λ v. cellOf d None g l ∷ v) (ih (cellOf d None g l) e)
       ∙ ap (λ v. cellOf (valueOf v) None g l ∷ rowBy (cellOf (valueOf v) None g l ∷ []) qs rest) (sym er)
-      ∙ ap (λ v. cellOf (valueOf (far p q)) None g l ∷ rowBy (cellOf (valueOf (far p q)) None g l ∷ []) qs v) (none refl)
+      ∙ ap (λ v. cellOf (valueOf (far p q)) None g l ∷ rowBy (cellOf (valueOf (far p q)) None g l ∷ []) qs v)
+      (none refl)
       ∙ sym (ap (rowBy (listed g ++ listed l) (q ∷ qs)) (none refl))
 
   -- an accepted row is the row of the values

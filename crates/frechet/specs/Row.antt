@@ -49,7 +49,8 @@ abbrev pub cellAnd : Float → (Float → Run) → Run
 cellAnd c go = onto (c ∷ []) (go c)
 
 -- the row from cell n on, for the points that are left; `above` is the row before, and empty at the first row
-abbrev pub rowFrom : (Point → Result Float Fault) → List Float → ℕ → Option Float → Option Float → List Point → Run
+abbrev pub rowFrom : (Point → Result Float Fault) → List Float → ℕ → Option Float → Option Float → List Point
+    → Run
 rowFrom far above n diagonal left [] = record { cells = []; outcome = Ok left }
 rowFrom far above n diagonal left (q ∷ qs) =
     cellThen n (far q) (λ d. cellAnd (cellOf d (nth above n) diagonal left)

@@ -32,18 +32,22 @@ apart far X Y p = far (getD X (p .0) nowhere) (getD Y (p .1) nowhere)
 
 -- some coupling of X and Y has no pair farther apart than d, and every coupling has a pair at least d apart
 pub record Coupled (far : Point → Point → Result Float Fault) (X Y : List Point) (d : Float) : Type 0 where
-  pub some : (pairs : List Pair) × IsCoupling (length X) (length Y) pairs × Each (λ p. NoMore d (apart far X Y p)) pairs
-  pub every : (pairs : List Pair) → IsCoupling (length X) (length Y) pairs → Some (λ p. NoLess d (apart far X Y p)) pairs
+  pub some : (pairs : List Pair) × IsCoupling (length X) (length Y) pairs
+      × Each (λ p. NoMore d (apart far X Y p)) pairs
+  pub every : (pairs : List Pair) → IsCoupling (length X) (length Y) pairs
+      → Some (λ p. NoLess d (apart far X Y p)) pairs
 
 -- an answer for two lines with points; the space is asked from the longer line's point to the shorter's
-abbrev pub LeastOverCouplings : (Point → Point → Result Float Fault) → List Point → List Point → Result Float Fault
+abbrev pub LeastOverCouplings : (Point → Point → Result Float Fault) → List Point → List Point
+    → Result Float Fault
     → Type 0
 LeastOverCouplings far A B (Ok d) = 0 < length A → 0 < length B → Coupled far (longer A B) (shorter A B) d
 LeastOverCouplings far A B (Err f) = Unit {0}
 
 -- d is what some call answers for the two lines, in one order or the other
 abbrev pub Answers : (Point → Point → Result Float Fault) → List Point → List Point → Float → Type 0
-Answers far A B d = (cells : List Float) × ((frechet far A B cells .result ≡ Ok d) ⊎ (frechet far B A cells .result ≡ Ok d))
+Answers far A B d = (cells : List Float) × ((frechet far A B cells .result ≡ Ok d) ⊎
+    (frechet far B A cells .result ≡ Ok d))
 
 -- distances agree both ways
 abbrev pub Mutual : (Point → Point → Result Float Fault) → List Point → List Point → Type 0
@@ -63,4 +67,5 @@ NearnessPasses far =
 -- the answer is the same whatever the cells held
 abbrev pub WhateverCellsHeld : (Point → Point → Result Float Fault) → List Point → List Point → List Float
     → Result Float Fault → Type 0
-WhateverCellsHeld far A B cells r = (held : List Float) → length held ≡ length cells → frechet far A B held .result ≡ r
+WhateverCellsHeld far A B cells r = (held : List Float) → length held ≡ length cells
+    → frechet far A B held .result ≡ r

@@ -26,7 +26,8 @@ fn room(cells: usize, count_1: usize, count_2: usize) -> Result<(), Cause>
 
 // What is known beforehand: how long the lines may be, and how many cells there are.
 fn allow<A: CoordsIter, B: CoordsIter>(ls_1: &A, ls_2: &B, cells: usize) -> Result<(), Cause>
-    ensures { λ r. ⌜ r ≡ allowed (length (A·CoordsIter .coords (now («ls_1» .entry)))) (length (B·CoordsIter .coords (now («ls_2» .entry)))) cells ⌝ }
+    ensures { λ r. ⌜ r ≡ allowed (length (A·CoordsIter .coords (now («ls_1» .entry))))
+        (length (B·CoordsIter .coords (now («ls_2» .entry)))) cells ⌝ }
 {
     let count_1 = given_count(ls_1)?;
     let count_2 = given_count(ls_2)?;
@@ -48,11 +49,17 @@ fn table<S: Space, L: CoordsIter, M: CoordsIter>(
     shorter: &mut M,
     space: &S,
 ) -> Result<f64, Fault>
-    requires { ⌜ 2 * length (M·CoordsIter .coords (now shorter)) ≤ length (now cells) ⌝ ∗ ⌜ length (L·CoordsIter .coords (now longer)) ≤ 65535 ⌝ }
-    ensures longer { λ _. ⌜ L·CoordsIter .coords (now (longer .exit)) ≡ L·CoordsIter .coords (now (longer .entry)) ⌝ }
-    ensures shorter { λ _. ⌜ M·CoordsIter .coords (now (shorter .exit)) ≡ M·CoordsIter .coords (now (shorter .entry)) ⌝ }
-    ensures cells { λ _. ⌜ now (cells .exit) ≡ tabled (far (now (space .entry))) (L·CoordsIter .coords (now (longer .entry))) (M·CoordsIter .coords (now (shorter .entry))) (now (cells .entry)) .cells ⌝ }
-    ensures result { λ r. ⌜ r ≡ tabled (far (now (space .entry))) (L·CoordsIter .coords (now (longer .entry))) (M·CoordsIter .coords (now (shorter .entry))) (now (cells .entry)) .result ⌝ }
+    requires { ⌜ 2 * length (M·CoordsIter .coords (now shorter)) ≤ length (now cells) ⌝ ∗ ⌜ length
+        (L·CoordsIter .coords (now longer)) ≤ 65535 ⌝ }
+    ensures longer { λ _. ⌜ L·CoordsIter .coords (now (longer .exit)) ≡ L·CoordsIter .coords
+        (now (longer .entry)) ⌝ }
+    ensures shorter { λ _. ⌜ M·CoordsIter .coords (now (shorter .exit)) ≡ M·CoordsIter .coords
+        (now (shorter .entry)) ⌝ }
+    ensures cells { λ _. ⌜ now (cells .exit) ≡ tabled (far (now (space .entry)))
+        (L·CoordsIter .coords (now (longer .entry))) (M·CoordsIter .coords (now (shorter .entry)))
+        (now (cells .entry)) .cells ⌝ }
+    ensures result { λ r. ⌜ r ≡ tabled (far (now (space .entry))) (L·CoordsIter .coords (now (longer .entry)))
+        (M·CoordsIter .coords (now (shorter .entry))) (now (cells .entry)) .result ⌝ }
 {
     let last = rows(cells, longer, shorter, space);
     answer_of(last)
@@ -65,10 +72,15 @@ fn compare<S: Space, A: CoordsIter, B: CoordsIter>(
     ls_2: &mut B,
     cells: &mut [f64],
 ) -> Result<f64, Fault>
-    ensures first { λ _. ⌜ A·CoordsIter .coords (now («ls_1» .exit)) ≡ A·CoordsIter .coords (now («ls_1» .entry)) ⌝ }
-    ensures second { λ _. ⌜ B·CoordsIter .coords (now («ls_2» .exit)) ≡ B·CoordsIter .coords (now («ls_2» .entry)) ⌝ }
-    ensures cells { λ _. ⌜ now (cells .exit) ≡ frechet (far (now (space .entry))) (A·CoordsIter .coords (now («ls_1» .entry))) (B·CoordsIter .coords (now («ls_2» .entry))) (now (cells .entry)) .cells ⌝ }
-    ensures result { λ r. ⌜ r ≡ frechet (far (now (space .entry))) (A·CoordsIter .coords (now («ls_1» .entry))) (B·CoordsIter .coords (now («ls_2» .entry))) (now (cells .entry)) .result ⌝ }
+    ensures first { λ _. ⌜ A·CoordsIter .coords (now («ls_1» .exit)) ≡ A·CoordsIter .coords
+        (now («ls_1» .entry)) ⌝ }
+    ensures second { λ _. ⌜ B·CoordsIter .coords (now («ls_2» .exit)) ≡ B·CoordsIter .coords
+        (now («ls_2» .entry)) ⌝ }
+    ensures cells { λ _. ⌜ now (cells .exit) ≡ frechet (far (now (space .entry)))
+        (A·CoordsIter .coords (now («ls_1» .entry))) (B·CoordsIter .coords (now («ls_2» .entry)))
+        (now (cells .entry)) .cells ⌝ }
+    ensures result { λ r. ⌜ r ≡ frechet (far (now (space .entry))) (A·CoordsIter .coords (now («ls_1» .entry)))
+        (B·CoordsIter .coords (now («ls_2» .entry))) (now (cells .entry)) .result ⌝ }
 {
     in_layer(allow(ls_1, ls_2, cells.len()), Layer::Line)?;
     let count_1 = ls_1.coords_count();
@@ -91,12 +103,20 @@ pub fn frechet_distance<S: Space, A: CoordsIter, B: CoordsIter>(
     ls_2: &mut B,
     cells: &mut [f64],
 ) -> Result<f64, Fault>
-    ensures first { λ _. ⌜ A·CoordsIter .coords (now («ls_1» .exit)) ≡ A·CoordsIter .coords (now («ls_1» .entry)) ⌝ }
-    ensures second { λ _. ⌜ B·CoordsIter .coords (now («ls_2» .exit)) ≡ B·CoordsIter .coords (now («ls_2» .entry)) ⌝ }
-    ensures cells { λ _. ⌜ now (cells .exit) ≡ frechet (far (now (space .entry))) (A·CoordsIter .coords (now («ls_1» .entry))) (B·CoordsIter .coords (now («ls_2» .entry))) (now (cells .entry)) .cells ⌝ }
-    ensures result { λ r. ⌜ r ≡ frechet (far (now (space .entry))) (A·CoordsIter .coords (now («ls_1» .entry))) (B·CoordsIter .coords (now («ls_2» .entry))) (now (cells .entry)) .result ⌝ }
-    ensures fresh { λ r. ⌜ WhateverCellsHeld (far (now (space .entry))) (A·CoordsIter .coords (now («ls_1» .entry))) (B·CoordsIter .coords (now («ls_2» .entry))) (now (cells .entry)) r ⌝ }
-    ensures couplings { λ r. ⌜ LeastOverCouplings (far (now (space .entry))) (A·CoordsIter .coords (now («ls_1» .entry))) (B·CoordsIter .coords (now («ls_2» .entry))) r ⌝ }
+    ensures first { λ _. ⌜ A·CoordsIter .coords (now («ls_1» .exit)) ≡ A·CoordsIter .coords
+        (now («ls_1» .entry)) ⌝ }
+    ensures second { λ _. ⌜ B·CoordsIter .coords (now («ls_2» .exit)) ≡ B·CoordsIter .coords
+        (now («ls_2» .entry)) ⌝ }
+    ensures cells { λ _. ⌜ now (cells .exit) ≡ frechet (far (now (space .entry)))
+        (A·CoordsIter .coords (now («ls_1» .entry))) (B·CoordsIter .coords (now («ls_2» .entry)))
+        (now (cells .entry)) .cells ⌝ }
+    ensures result { λ r. ⌜ r ≡ frechet (far (now (space .entry))) (A·CoordsIter .coords (now («ls_1» .entry)))
+        (B·CoordsIter .coords (now («ls_2» .entry))) (now (cells .entry)) .result ⌝ }
+    ensures fresh { λ r. ⌜ WhateverCellsHeld (far (now (space .entry)))
+        (A·CoordsIter .coords (now («ls_1» .entry))) (B·CoordsIter .coords (now («ls_2» .entry)))
+        (now (cells .entry)) r ⌝ }
+    ensures couplings { λ r. ⌜ LeastOverCouplings (far (now (space .entry)))
+        (A·CoordsIter .coords (now («ls_1» .entry))) (B·CoordsIter .coords (now («ls_2» .entry))) r ⌝ }
     ensures nearness { λ _. ⌜ NearnessPasses (far (now (space .entry))) ⌝ }
 {
     compare(space, ls_1, ls_2, cells)

@@ -24,8 +24,11 @@ fn fill<S: Space, L: CoordsIter>(
 ) -> Result<Option<f64>, Fault>
     requires { ⌜ Apart this other count (length (coords (now shorter))) (length (now cells)) ⌝ }
     ensures line { λ _. ⌜ coords (now (shorter .exit)) ≡ coords (now (shorter .entry)) ⌝ }
-    ensures cells { λ _. ⌜ now (cells .exit) ≡ written this (rowOf (far (now (space .entry)) p) (take count (drop other (now (cells .entry)))) (coords (now (shorter .entry))) .cells) (now (cells .entry)) ⌝ }
-    ensures outcome { λ r. ⌜ r ≡ rowOf (far (now (space .entry)) p) (take count (drop other (now (cells .entry)))) (coords (now (shorter .entry))) .outcome ⌝ }
+    ensures cells { λ _. ⌜ now (cells .exit) ≡ written this
+        (rowOf (far (now (space .entry)) p) (take count (drop other (now (cells .entry))))
+        (coords (now (shorter .entry))) .cells) (now (cells .entry)) ⌝ }
+    ensures outcome { λ r. ⌜ r ≡ rowOf (far (now (space .entry)) p)
+        (take count (drop other (now (cells .entry)))) (coords (now (shorter .entry))) .outcome ⌝ }
 {
     shorter.rewind();
     let mut j = 0;
@@ -54,8 +57,12 @@ pub(crate) fn row<S: Space, L: CoordsIter>(
 ) -> Result<Option<f64>, Fault>
     requires { ⌜ 2 * length (coords (now shorter)) ≤ length (now cells) ⌝ }
     ensures line { λ _. ⌜ coords (now (shorter .exit)) ≡ coords (now (shorter .entry)) ⌝ }
-    ensures cells { λ _. ⌜ now (cells .exit) ≡ written (rowStart k (length (coords (now (shorter .entry))))) (rowOf (far (now (space .entry)) p) (rowBefore k (length (coords (now (shorter .entry)))) (now (cells .entry))) (coords (now (shorter .entry))) .cells) (now (cells .entry)) ⌝ }
-    ensures outcome { λ r. ⌜ r ≡ rowOf (far (now (space .entry)) p) (rowBefore k (length (coords (now (shorter .entry)))) (now (cells .entry))) (coords (now (shorter .entry))) .outcome ⌝ }
+    ensures cells { λ _. ⌜ now (cells .exit) ≡ written (rowStart k (length (coords (now (shorter .entry)))))
+        (rowOf (far (now (space .entry)) p) (rowBefore k (length (coords (now (shorter .entry))))
+        (now (cells .entry))) (coords (now (shorter .entry))) .cells) (now (cells .entry)) ⌝ }
+    ensures outcome { λ r. ⌜ r ≡ rowOf (far (now (space .entry)) p)
+        (rowBefore k (length (coords (now (shorter .entry)))) (now (cells .entry)))
+        (coords (now (shorter .entry))) .outcome ⌝ }
 {
     let s = shorter.coords_count();
     if k == 0 {

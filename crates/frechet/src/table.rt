@@ -17,11 +17,18 @@ pub(crate) fn rows<S: Space, L: CoordsIter, M: CoordsIter>(
     shorter: &mut M,
     space: &S,
 ) -> Result<Option<f64>, Fault>
-    requires { ⌜ 2 * length (M·CoordsIter .coords (now shorter)) ≤ length (now cells) ⌝ ∗ ⌜ length (L·CoordsIter .coords (now longer)) ≤ 65535 ⌝ }
-    ensures longer { λ _. ⌜ L·CoordsIter .coords (now (longer .exit)) ≡ L·CoordsIter .coords (now (longer .entry)) ⌝ }
-    ensures shorter { λ _. ⌜ M·CoordsIter .coords (now (shorter .exit)) ≡ M·CoordsIter .coords (now (shorter .entry)) ⌝ }
-    ensures cells { λ _. ⌜ now (cells .exit) ≡ rowsFrom (far (now (space .entry))) 0 [] None (L·CoordsIter .coords (now (longer .entry))) (M·CoordsIter .coords (now (shorter .entry))) (now (cells .entry)) .cells ⌝ }
-    ensures last { λ r. ⌜ r ≡ rowsFrom (far (now (space .entry))) 0 [] None (L·CoordsIter .coords (now (longer .entry))) (M·CoordsIter .coords (now (shorter .entry))) (now (cells .entry)) .last ⌝ }
+    requires { ⌜ 2 * length (M·CoordsIter .coords (now shorter)) ≤ length (now cells) ⌝ ∗ ⌜ length
+        (L·CoordsIter .coords (now longer)) ≤ 65535 ⌝ }
+    ensures longer { λ _. ⌜ L·CoordsIter .coords (now (longer .exit)) ≡ L·CoordsIter .coords
+        (now (longer .entry)) ⌝ }
+    ensures shorter { λ _. ⌜ M·CoordsIter .coords (now (shorter .exit)) ≡ M·CoordsIter .coords
+        (now (shorter .entry)) ⌝ }
+    ensures cells { λ _. ⌜ now (cells .exit) ≡ rowsFrom (far (now (space .entry))) 0 [] None
+        (L·CoordsIter .coords (now (longer .entry))) (M·CoordsIter .coords (now (shorter .entry)))
+        (now (cells .entry)) .cells ⌝ }
+    ensures last { λ r. ⌜ r ≡ rowsFrom (far (now (space .entry))) 0 [] None
+        (L·CoordsIter .coords (now (longer .entry))) (M·CoordsIter .coords (now (shorter .entry)))
+        (now (cells .entry)) .last ⌝ }
 {
     longer.rewind();
     let mut k = 0;

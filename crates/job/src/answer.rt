@@ -110,7 +110,9 @@ fn command_of(text: &[u8], line: Line, number: usize) -> Result<Command, Fault>
 impl Job {
     // The text is made before anything is kept, so that want of memory changes nothing.
     fn add_reference(&mut self, heap: Global, x: u64, y: u64) -> Result<String, AllocError>
-        ensures { λ r. ⌜ Cases r (λ s. Replies (keptBy (now (self .entry))) (Command.Reference x y) (string-bytes s) (keptBy (now (self .exit)))) (λ _. keptBy (now (self .exit)) ≡ keptBy (now (self .entry))) ⌝ }
+        ensures { λ r. ⌜ Cases r (λ s. Replies (keptBy (now (self .entry))) (Command.Reference x y)
+            (string-bytes s) (keptBy (now (self .exit))))
+            (λ _. keptBy (now (self .exit)) ≡ keptBy (now (self .entry))) ⌝ }
     {
         let p = point_of(x, y);
         match reference_takes(self.reference.len(), p) {
@@ -124,7 +126,9 @@ impl Job {
     }
 
     fn append(&mut self, heap: Global, x: u64, y: u64) -> Result<String, AllocError>
-        ensures { λ r. ⌜ Cases r (λ s. Replies (keptBy (now (self .entry))) (Command.Append x y) (string-bytes s) (keptBy (now (self .exit)))) (λ _. keptBy (now (self .exit)) ≡ keptBy (now (self .entry))) ⌝ }
+        ensures { λ r. ⌜ Cases r (λ s. Replies (keptBy (now (self .entry))) (Command.Append x y)
+            (string-bytes s) (keptBy (now (self .exit))))
+            (λ _. keptBy (now (self .exit)) ≡ keptBy (now (self .entry))) ⌝ }
     {
         let p = point_of(x, y);
         match finite(p) {
@@ -138,7 +142,8 @@ impl Job {
     }
 
     fn compare(&self, heap: Global) -> Result<String, AllocError>
-        ensures { λ r. ⌜ made r (λ s. string-bytes s ≡ distanceText (distanceOf (keptBy (now (self .entry))))) ⌝ }
+        ensures { λ r. ⌜ made r (λ s. string-bytes s ≡ distanceText (distanceOf (keptBy (now (self .entry)))))
+            ⌝ }
     {
         let shorter = self.planned.len().min(self.reference.len());
         let mut cells = vec![in heap; 0.0; 2 * shorter]?;
@@ -153,7 +158,8 @@ impl Job {
     }
 
     fn reply(&mut self, heap: Global, command: Command) -> Result<String, AllocError>
-        ensures { λ r. ⌜ Cases r (λ s. Replies (keptBy (now (self .entry))) command (string-bytes s) (keptBy (now (self .exit)))) (λ _. keptBy (now (self .exit)) ≡ keptBy (now (self .entry))) ⌝ }
+        ensures { λ r. ⌜ Cases r (λ s. Replies (keptBy (now (self .entry))) command (string-bytes s)
+            (keptBy (now (self .exit)))) (λ _. keptBy (now (self .exit)) ≡ keptBy (now (self .entry))) ⌝ }
     {
         match command {
             Command::Reference(x, y) => self.add_reference(heap, x, y),
@@ -171,7 +177,9 @@ impl Job {
         line: Line,
         number: usize,
     ) -> Result<String, AllocError>
-        ensures { λ r. ⌜ Cases r (λ s. Answered (now (text .entry)) (line .start) (line .end) number (keptBy (now (self .entry))) (string-bytes s) (keptBy (now (self .exit)))) (λ _. keptBy (now (self .exit)) ≡ keptBy (now (self .entry))) ⌝ }
+        ensures { λ r. ⌜ Cases r (λ s. Answered (now (text .entry)) (line .start) (line .end) number
+            (keptBy (now (self .entry))) (string-bytes s) (keptBy (now (self .exit))))
+            (λ _. keptBy (now (self .exit)) ≡ keptBy (now (self .entry))) ⌝ }
     {
         match command_of(text, line, number) {
             Ok(command) => self.reply(heap, command),

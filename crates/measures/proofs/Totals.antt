@@ -22,7 +22,8 @@ module _ (far : Point → Point → Result Float Fault) where
   total-none [] e = refl
   total-none (p ∷ ps) e = let z : _≡_ {A = ℕ} 0 1 = cc in absurd (omega arith)
 
-  pub total-first : (ps : List Point) (p : Point) → nth ps 0 ≡ Some p → totalFrom far 1 zero64 p (drop 1 ps) ≡ totalOf far ps
+  pub total-first : (ps : List Point) (p : Point) → nth ps 0 ≡ Some p
+      → totalFrom far 1 zero64 p (drop 1 ps) ≡ totalOf far ps
   total-first [] p e = let z : _≡_ {A = ℕ} 0 1 = cc in absurd (omega arith)
   total-first (q ∷ qs) p e = let same : p ≡ q = cc in ap (λ (x : Point). totalFrom far 1 zero64 x qs) same
 

@@ -17,7 +17,8 @@ use Rattle.points.specs.Rounded.{_⊕_, zero64}
 use Rattle.points.specs.Walks.{fits}
 
 -- a sum, and the pairs from pair k on, the first of them between p and the point after it
-abbrev pub totalFrom : (Point → Point → Result Float Fault) → ℕ → Float → Point → List Point → Result Float Fault
+abbrev pub totalFrom : (Point → Point → Result Float Fault) → ℕ → Float → Point → List Point
+    → Result Float Fault
 totalFrom far k sum p [] = Ok sum
 totalFrom far k sum p (q ∷ qs) = after (atPlace (far p q) k) (λ d. totalFrom far (k + 1) (sum ⊕ d) q qs)
 

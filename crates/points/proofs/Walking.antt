@@ -14,12 +14,14 @@ use Rattle.points.specs.Walks.{stepped}
 
 pub within-some : {X : Type 0} (xs : List X) (j : ℕ) (x : X) → nth xs j ≡ Some x → j < length xs
 within-some xs j x e =
-    ⊎-elim (λ h. h) (λ h. let none = nth-past xs j h in let z : _≡_ {A = ℕ} 0 1 = cc in absurd (omega arith)) (cases-lt j (length xs))
+    ⊎-elim (λ h. h) (λ h. let none = nth-past xs j h in let z : _≡_ {A = ℕ} 0 1 = cc in absurd (omega arith))
+    (cases-lt j (length xs))
 
 pub past-none : {X : Type 0} (xs : List X) (j : ℕ) → nth xs j ≡ None → length xs ≤ j
 past-none [] j e = omega arith
 past-none (x ∷ xs) j e =
-    ⊎-elim (λ h. let some = nth-getD (x ∷ xs) j x h in let z : _≡_ {A = ℕ} 0 1 = cc in absurd (omega arith)) (λ h. h) (cases-lt j (length (x ∷ xs)))
+    ⊎-elim (λ h. let some = nth-getD (x ∷ xs) j x h in let z : _≡_ {A = ℕ} 0 1 = cc in absurd (omega arith))
+    (λ h. h) (cases-lt j (length (x ∷ xs)))
 
 pub drop-some : {X : Type 0} (xs : List X) (j : ℕ) (x : X) → nth xs j ≡ Some x → drop j xs ≡ x ∷ drop (j + 1) xs
 drop-some xs j x e =
@@ -29,5 +31,7 @@ drop-some xs j x e =
     cc
 
 -- a step that is not at the end
-pub step-inside : {X : Type 0} (xs ys : List X) (n j : ℕ) → xs ≡ ys → n ≡ j → j < length ys → stepped xs n ≡ j + 1
-step-inside xs ys n j same at h = ap (stepped xs) at ∙ ap (λ l. stepped l j) same ∙ sym (cond-below j (length ys) (j + 1) j h)
+pub step-inside : {X : Type 0} (xs ys : List X) (n j : ℕ) → xs ≡ ys → n ≡ j → j < length ys
+    → stepped xs n ≡ j + 1
+step-inside xs ys n j same at h = ap (stepped xs) at ∙ ap (λ l. stepped l j) same
+    ∙ sym (cond-below j (length ys) (j + 1) j h)

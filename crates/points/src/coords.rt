@@ -30,7 +30,8 @@ pub trait CoordsIter {
 
     fn advance(&mut self)
         ensures same { λ _. ⌜ coords (now (self .exit)) ≡ coords (now (self .entry)) ⌝ }
-        ensures next { λ _. ⌜ position (now (self .exit)) ≡ stepped (coords (now (self .entry))) (position (now (self .entry))) ⌝ };
+        ensures next { λ _. ⌜ position (now (self .exit)) ≡ stepped (coords (now (self .entry)))
+            (position (now (self .entry))) ⌝ };
 }
 
 // The most points that a line given to a call may have: a place, and an index of a point, has 16 bits.

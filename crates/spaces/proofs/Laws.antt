@@ -65,7 +65,8 @@ admitted-finite : (p : Point) → T (Plane.admitted p) → T (finitePoint p)
 admitted-finite p h =
     let a = le (size (p .x)) Plane.farthest in
     let b = le (size (p .y)) Plane.farthest in
-    both-true (finite (p .x)) (finite (p .y)) (bounded-finite (p .x) (and-l a b h)) (bounded-finite (p .y) (and-r a b h))
+    both-true (finite (p .x)) (finite (p .y)) (bounded-finite (p .x) (and-l a b h))
+    (bounded-finite (p .y) (and-r a b h))
 
 answer-lands : (p : Point) → Lands Plane.admitted true true (Plane.point-answer p)
 answer-lands p = go (Plane.admitted p) refl
@@ -82,7 +83,8 @@ plane-ratios p q t = go (finite t) (Plane.admitted p && Plane.admitted q)
   where
     go : (f b : Bool) → Lands Plane.admitted f b
         (after (cond f (Ok tt) (Err (raised NotFinite Space)))
-        (λ (_ : Unit {0}). after (after (cond b (Ok tt) (Err (raised NotAdmitted Space))) (λ (_ : Unit {0}). Ok (record { start = p; way = difference q p })))
+        (λ (_ : Unit {0}). after (after (cond b (Ok tt) (Err (raised NotAdmitted Space)))
+        (λ (_ : Unit {0}). Ok (record { start = p; way = difference q p })))
         (λ (x : PlanePair). after (cond f (Ok tt) (Err (raised NotFinite Space)))
         (λ (_ : Unit {0}). Plane.point-answer (sum (x .start) (multiple (x .way) t))))))
     go false b = refl
@@ -100,7 +102,8 @@ plane-alongs hypot p q t = go (finite t) (Plane.admitted p && Plane.admitted q)
     go : (f b : Bool) → Lands Plane.admitted f b
         (after (cond f (Ok tt) (Err (raised NotFinite Space)))
         (λ (_ : Unit {0}). after (cond b (Ok tt) (Err (raised NotAdmitted Space)))
-        (λ (_ : Unit {0}). after (answered (hypot (difference q p .x) (difference q p .y))) (Plane.at-total p q t))))
+        (λ (_ : Unit {0}). after (answered (hypot (difference q p .x) (difference q p .y)))
+        (Plane.at-total p q t))))
     go false b = refl
     go true false = refl
     go true true = answers (hypot (difference q p .x) (difference q p .y))

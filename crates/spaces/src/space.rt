@@ -33,11 +33,14 @@ pub trait Space {
 
     law distances: { (s : Self) (p q : Point) → Measures (admits s p && admits s q) (far s p q) };
 
-    law ratios: { (s : Self) (p q : Point) (t : Float) → Lands (admits s) (finite t) (admits s p && admits s q) (ratio s p q t) };
+    law ratios: { (s : Self) (p q : Point) (t : Float)
+        → Lands (admits s) (finite t) (admits s p && admits s q) (ratio s p q t) };
 
-    law alongs: { (s : Self) (p q : Point) (t : Float) → Lands (admits s) (finite t) (admits s p && admits s q) (along s p q t) };
+    law alongs: { (s : Self) (p q : Point) (t : Float)
+        → Lands (admits s) (finite t) (admits s p && admits s q) (along s p q t) };
 
-    law pairs: { (s : Self) (p q : Point) (t : Float) → ratio s p q t ≡ byPair (finite t) (paired s p q) (λ pair. between s pair t) };
+    law pairs: { (s : Self) (p q : Point) (t : Float)
+        → ratio s p q t ≡ byPair (finite t) (paired s p q) (λ pair. between s pair t) };
 
     fn distance(&self, origin: Point, destination: Point) -> Result<f64, Fault>
         ensures { λ r. ⌜ r ≡ far (now (self .entry)) origin destination ⌝ };

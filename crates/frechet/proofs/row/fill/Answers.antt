@@ -50,9 +50,11 @@ returns-in-Break-distance g c =
     let exit = err-from-errBy (c .from-residual .result) (c .from-residual .ensures .1) in
     let why = placed-err (c .distance .result) (c .loop-q .j + 1) _
     (sym (c .at-place .ensures) ∙ c .in-Break-distance .was tt) in
-    let ends = stopped far above (g .L·CoordsIter .coords (c .rewind .last .self)) (c .args .this) (c .args .cells .now)
+    let ends = stopped far above (g .L·CoordsIter .coords (c .rewind .last .self)) (c .args .this)
+    (c .args .cells .now)
     (c .loop-q .inv .3) (c .in-Some .q) (why .0) (here g s) (sym (c .distance .ensures) ∙ why .1) in
-    let told = subst (Ends far above (c .args .this) (c .args .cells .now) (c .loop-q .cells) _) (c .rewind .ensures .same)
+    let told = subst (Ends far above (c .args .this) (c .args .cells .now) (c .loop-q .cells) _)
+    (c .rewind .ensures .same)
     ends in
     record {
       line = c .loop-q .inv .0 ∙ c .rewind .ensures .same;
@@ -75,9 +77,11 @@ loop-q-again g c =
     let ok = placed-ok (c .distance .result) (c .loop-q .j + 1) (c .in-Continue-distance .distance)
     (sym (c .at-place .ensures) ∙ c .in-Continue-distance .was tt) in
     let read = c .cell-at-up .ensures ∙ ap (λ l. nth l (c .loop-q .j)) (before g s) in
-    let more = one-more far above (g .L·CoordsIter .coords (c .rewind .last .self)) (c .args .this) (c .args .cells .now)
+    let more = one-more far above (g .L·CoordsIter .coords (c .rewind .last .self)) (c .args .this)
+    (c .args .cells .now)
     (c .loop-q .inv .3) (c .in-Some .q) (c .in-Continue-distance .distance) (c .cell-at-up .result)
-    (c .cell-value .result) read (c .cell-value .ensures) (here g s) (sym (c .distance .ensures) ∙ ok) (room g s) in (
+    (c .cell-value .result) read (c .cell-value .ensures) (here g s) (sym (c .distance .ensures) ∙ ok)
+    (room g s) in (
       c .advance .ensures .same ∙ c .loop-q .inv .0,
       c .advance .ensures .next ∙ step-inside _ _ _ _ (c .loop-q .inv .0) (c .loop-q .inv .1) h,
       omega arith,
@@ -90,8 +94,10 @@ returns g c =
     let none : nth (g .L·CoordsIter .coords (c .rewind .last .self)) (c .loop-q .j) ≡ None = cc in
     let far : Point → Result Float Fault = g .S·Space .far (c .args .space .now) (c .args .p) in
     let above : List Float = take (c .args .count) (drop (c .args .other) (c .args .cells .now)) in
-    let ends = finished far above (g .L·CoordsIter .coords (c .rewind .last .self)) (c .args .this) (c .args .cells .now)
+    let ends = finished far above (g .L·CoordsIter .coords (c .rewind .last .self)) (c .args .this)
+    (c .args .cells .now)
     (c .loop-q .inv .3) none in
-    let told = subst (Ends far above (c .args .this) (c .args .cells .now) (c .loop-q .cells) (Ok (c .loop-q .left)))
+    let told = subst (Ends far above (c .args .this) (c .args .cells .now) (c .loop-q .cells)
+    (Ok (c .loop-q .left)))
     (c .rewind .ensures .same) ends in
     record { line = c .loop-q .inv .0 ∙ c .rewind .ensures .same; cells = told .0; outcome = told .1 }

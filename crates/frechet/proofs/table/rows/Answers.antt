@@ -48,11 +48,15 @@ returns-in-Break-last g c =
     let exit = err-from-errBy (c .from-residual .result) (c .from-residual .ensures .1) in
     let told = c .row .ensures in
     let out : rowOf (far p) (rowBefore k (length qs) xs) qs .outcome ≡ Err f =
-    sym (sym (c .in-Break-last .was tt) ∙ told .outcome ∙ ap (λ q. rowOf (far p) (rowBefore k (length q) xs) q .outcome) same) in
-    let cells = told .cells ∙ ap (λ q. written (rowStart k (length q)) (rowOf (far p) (rowBefore k (length q) xs) q .cells) xs) same in
+    sym (sym (c .in-Break-last .was tt) ∙ told .outcome
+    ∙ ap (λ q. rowOf (far p) (rowBefore k (length q) xs) q .outcome) same) in
+    let cells = told .cells ∙ ap (λ q. written (rowStart k (length q))
+    (rowOf (far p) (rowBefore k (length q) xs) q .cells) xs) same in
     let stops = sym (c .loop-p .inv .4)
-    ∙ row-stops far ps qs k (rowBefore k (length qs) xs) (c .loop-p .last) xs p (here g (need.at·returns-in-Break-last g c .In-Some)) f out in
-    let all = ap (λ l. rowsFrom far 0 [] None l qs (c .args .cells .now)) (sym (c .rewind .ensures .same)) ∙ stops in
+    ∙ row-stops far ps qs k (rowBefore k (length qs) xs) (c .loop-p .last) xs p
+    (here g (need.at·returns-in-Break-last g c .In-Some)) f out in
+    let all = ap (λ l. rowsFrom far 0 [] None l qs (c .args .cells .now)) (sym (c .rewind .ensures .same))
+    ∙ stops in
     record {
       longer = c .loop-p .inv .0 ∙ c .rewind .ensures .same;
       shorter = told .line ∙ same;
@@ -80,12 +84,16 @@ loop-p-again g c =
     let told = c .row .ensures in
     let above : List Float = rowBefore k (length qs) xs in
     let out : rowOf (far p) above qs .outcome ≡ Ok l =
-    sym (sym (c .in-Continue-last .was tt) ∙ told .outcome ∙ ap (λ q. rowOf (far p) (rowBefore k (length q) xs) q .outcome) same) in
+    sym (sym (c .in-Continue-last .was tt) ∙ told .outcome
+    ∙ ap (λ q. rowOf (far p) (rowBefore k (length q) xs) q .outcome) same) in
     let cells : c .row .last .cells ≡ written (rowStart k (length qs)) (rowOf (far p) above qs .cells) xs =
-    told .cells ∙ ap (λ q. written (rowStart k (length q)) (rowOf (far p) (rowBefore k (length q) xs) q .cells) xs) same in
+    told .cells ∙ ap (λ q. written (rowStart k (length q))
+    (rowOf (far p) (rowBefore k (length q) xs) q .cells) xs) same in
     let full = row-whole (far p) above 0 None None l qs out .full in
-    let room : rowStart k (length qs) ≤ length xs = half-room k (length qs) (length xs) (omega (arith, c .pre, c .loop-p .kept .cells)) in
-    let before = ap (rowBefore (k + 1) (length qs)) cells ∙ next-before k (length qs) (rowOf (far p) above qs .cells) xs full room in
+    let room : rowStart k (length qs) ≤ length xs = half-room k (length qs) (length xs)
+    (omega (arith, c .pre, c .loop-p .kept .cells)) in
+    let before = ap (rowBefore (k + 1) (length qs)) cells
+    ∙ next-before k (length qs) (rowOf (far p) above qs .cells) xs full room in
     let left = sym (one-less far ps qs k above (c .loop-p .last) xs p (here g s) l out) ∙ c .loop-p .inv .4 in
     let h = inside g s in (
       c .advance .ensures .same ∙ c .loop-p .inv .0,
@@ -102,9 +110,11 @@ returns g c =
     let qs : List Point = g .M·CoordsIter .coords (c .args .shorter .now) in
     let told = c .in-rest .ensures tt in
     let none : nth (g .L·CoordsIter .coords (c .rewind .last .self)) (c .loop-p .k) ≡ None = cc in
-    let done = none-left far ps qs (c .loop-p .k) (rowBefore (c .loop-p .k) (length qs) (c .loop-p .cells)) (c .loop-p .last)
+    let done = none-left far ps qs (c .loop-p .k) (rowBefore (c .loop-p .k) (length qs) (c .loop-p .cells))
+    (c .loop-p .last)
     (c .loop-p .cells) (past-none ps (c .loop-p .k) none) in
-    let all = sym done ∙ c .loop-p .inv .4 ∙ ap (λ l. rowsFrom far 0 [] None l qs (c .args .cells .now)) (c .rewind .ensures .same) in
+    let all = sym done ∙ c .loop-p .inv .4 ∙ ap (λ l. rowsFrom far 0 [] None l qs (c .args .cells .now))
+    (c .rewind .ensures .same) in
     record {
       longer = c .loop-p .inv .0 ∙ c .rewind .ensures .same;
       shorter = c .loop-p .inv .1;

@@ -13,7 +13,8 @@ Inv-loop-p g l =
     let qs = g .M·CoordsIter .coords (l .entry .shorter) in
     (g .L·CoordsIter .coords (l .longer) ≡ ps) × (g .M·CoordsIter .coords (l .shorter) ≡ qs)
     × (g .L·CoordsIter .position (l .longer) ≡ l .k) × (l .k ≤ length ps)
-    × (rowsFrom (g .S·Space .far (l .space)) (l .k) (rowBefore (l .k) (length qs) (l .cells)) (l .last) (drop (l .k) ps) qs
+    × (rowsFrom (g .S·Space .far (l .space)) (l .k) (rowBefore (l .k) (length qs) (l .cells)) (l .last)
+    (drop (l .k) ps) qs
     (l .cells)
     ≡ rowsFrom (g .S·Space .far (l .space)) 0 [] None ps qs (l .entry .cells))
 

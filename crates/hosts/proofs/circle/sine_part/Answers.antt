@@ -13,7 +13,8 @@ loop-k-again c =
     let k = c .loop-k .k in
     let z = c .args .r ⊗ c .args .r in
     c .sine-term-s .ensures
-    ∙ turns-more (sine-term z) one64 (c .loop-k .s) 9 (9 - k) k (9 - (k - 1)) (omega arith) (omega arith) (c .loop-k .inv)
+    ∙ turns-more (sine-term z) one64 (c .loop-k .s) 9 (9 - k) k (9 - (k - 1)) (omega arith) (omega arith)
+    (c .loop-k .inv)
 
 pub returns : need.returns
 returns c =

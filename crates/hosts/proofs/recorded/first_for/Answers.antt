@@ -21,13 +21,15 @@ at : (rs : List Recorded) (i f x y : ℕ) (told : Bool) → i < length rs → to
     ≡ cond told (Some (ofBits binary64 (getD rs i blank .answer))) (firstFor (drop (suc i) rs) f x y)
 at rs i f x y told h e =
     ap (λ (xs : List Recorded). firstFor xs f x y) (drop-cons rs i blank h)
-    ∙ ap (λ (t : Bool). cond t (Some (ofBits binary64 (getD rs i blank .answer))) (firstFor (drop (suc i) rs) f x y))
+    ∙ ap (λ (t : Bool). cond t (Some (ofBits binary64 (getD rs i blank .answer)))
+    (firstFor (drop (suc i) rs) f x y))
     (sym e)
 
 pub returns-then-is-for : need.returns-then-is-for
 returns-then-is-for c =
     ap Some (c .f64-from-bits-with-nan .ensures)
-    ∙ sym (at (c .args .records .now) (c .loop-recorded .recorded-index) (c .args .function) (c .args .x) (c .args .y) true
+    ∙ sym (at (c .args .records .now) (c .loop-recorded .recorded-index) (c .args .function) (c .args .x)
+    (c .args .y) true
     (c .loop-recorded-test .taken) (c .if-is-for .ensures tt))
     ∙ c .loop-recorded .inv
 

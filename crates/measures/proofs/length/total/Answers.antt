@@ -25,7 +25,11 @@ returns-in-rest g c =
     let first = c .rewind .ensures .first in
     let same = c .rewind .ensures .same in
     let none : nth (g .L·CoordsIter .coords (c .args .line .now)) 0 ≡ None = cc in
-    record { line = same; total = total-none (g .S·Space .far (c .args .space .now)) (g .L·CoordsIter .coords (c .args .line .now)) none }
+    record {
+      line = same;
+      total = total-none (g .S·Space .far (c .args .space .now))
+          (g .L·CoordsIter .coords (c .args .line .now)) none;
+    }
 
 pub loop-end-holds : need.loop-end-holds
 loop-end-holds g c =
@@ -34,7 +38,8 @@ loop-end-holds g c =
     let first = c .rewind .ensures .first in
     let same = c .advance .ensures .same in
     let here : nth (g .L·CoordsIter .coords (c .advance .last .self)) 0 ≡ Some (c .in-Some .start) = cc in
-    let inside : 0 < length (g .L·CoordsIter .coords (c .advance .last .self)) = within-some _ 0 (c .in-Some .start) here in (
+    let inside : 0 < length (g .L·CoordsIter .coords (c .advance .last .self)) = within-some _ 0
+    (c .in-Some .start) here in (
       refl,
       c .advance .ensures .next ∙ step-inside _ _ _ 0 (sym same) first inside,
       omega arith,
@@ -43,7 +48,8 @@ loop-end-holds g c =
 
 -- what is known while a point is left
 module _ (g : given.Over) (c : In-Some-current g) where
-  here : nth (g .L·CoordsIter .coords (c .advance .last .self)) (c .loop-end .pair) ≡ Some (c .in-Some-current .end)
+  here : nth (g .L·CoordsIter .coords (c .advance .last .self)) (c .loop-end .pair) ≡ Some
+      (c .in-Some-current .end)
   here = let told = c .in-Some-current .ensures tt in cc
 
   inside : c .loop-end .pair < length (g .L·CoordsIter .coords (c .advance .last .self))
@@ -61,11 +67,14 @@ returns-in-Break-distance g c =
     let exit = err-from-errBy (c .from-residual .result) (c .from-residual .ensures .1) in
     let f = c .in-Break-distance .field-0 .0 in
     let why : atPlace (far (c .loop-end .start) (c .in-Some-current .end)) (c .loop-end .pair) ≡ Err f =
-    ap (λ r. atPlace r (c .loop-end .pair)) (sym (c .distance .ensures)) ∙ sym (c .at-place .ensures) ∙ c .in-Break-distance .was tt in
-    let stops = total-stops far ps (c .loop-end .pair) (c .loop-end .sum) (c .loop-end .start) (c .in-Some-current .end) (here g s) f why in
+    ap (λ r. atPlace r (c .loop-end .pair)) (sym (c .distance .ensures)) ∙ sym (c .at-place .ensures)
+    ∙ c .in-Break-distance .was tt in
+    let stops = total-stops far ps (c .loop-end .pair) (c .loop-end .sum) (c .loop-end .start)
+    (c .in-Some-current .end) (here g s) f why in
     record {
       line = c .loop-end .inv .0 ∙ given-line g s;
-      total = exit .1 ∙ ap (λ e. Err e) (exit .2) ∙ sym stops ∙ c .loop-end .inv .3 ∙ ap (totalOf far) (given-line g s);
+      total = exit .1 ∙ ap (λ e. Err e) (exit .2) ∙ sym stops ∙ c .loop-end .inv .3
+          ∙ ap (totalOf far) (given-line g s);
     }
 
 pub loop-end-less : need.loop-end-less
@@ -83,12 +92,16 @@ loop-end-again g c =
     let ps : List Point = g .L·CoordsIter .coords (c .advance .last .self) in
     let h = inside g s in
     let d = c .in-Continue-distance .distance in
-    let ok : atPlace (far (c .loop-end .start) (c .in-Some-current .end)) (c .loop-end .pair) ≡ Ok (c .in-Continue-distance .distance) =
-    ap (λ r. atPlace r (c .loop-end .pair)) (sym (c .distance .ensures)) ∙ sym (c .at-place .ensures) ∙ c .in-Continue-distance .was tt in (
+    let ok : atPlace (far (c .loop-end .start) (c .in-Some-current .end)) (c .loop-end .pair) ≡ Ok
+    (c .in-Continue-distance .distance) =
+    ap (λ r. atPlace r (c .loop-end .pair)) (sym (c .distance .ensures)) ∙ sym (c .at-place .ensures)
+    ∙ c .in-Continue-distance .was tt in (
       c .advance-in-Some-current .ensures .same ∙ c .loop-end .inv .0,
-      c .advance-in-Some-current .ensures .next ∙ step-inside _ _ _ _ (c .loop-end .inv .0) (c .loop-end .inv .1) h,
+      c .advance-in-Some-current .ensures .next ∙ step-inside _ _ _ _ (c .loop-end .inv .0)
+          (c .loop-end .inv .1) h,
       omega arith,
-      sym (total-more far ps (c .loop-end .pair) (c .loop-end .sum) (c .loop-end .start) (c .in-Some-current .end) (here g s) d ok)
+      sym (total-more far ps (c .loop-end .pair) (c .loop-end .sum) (c .loop-end .start)
+          (c .in-Some-current .end) (here g s) d ok)
           ∙ c .loop-end .inv .3,
     )
 
@@ -101,6 +114,7 @@ returns g c =
     let same = c .advance .ensures .same ∙ c .rewind .ensures .same in
     record {
       line = c .loop-end .inv .0 ∙ same;
-      total = sym (total-all far ps (c .loop-end .pair) (c .loop-end .sum) (c .loop-end .start) (past-none ps (c .loop-end .pair) none))
+      total = sym (total-all far ps (c .loop-end .pair) (c .loop-end .sum) (c .loop-end .start)
+          (past-none ps (c .loop-end .pair) none))
           ∙ c .loop-end .inv .3 ∙ ap (totalOf far) same;
     }
