@@ -1,1 +1,4 @@
 pub mod Downward
+pub mod AtMost
+pub mod ArcRule
+pub mod Quarters

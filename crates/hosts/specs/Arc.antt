@@ -1,5 +1,6 @@
 -- Arc sine and arc tangent of the series host: one rounded operation after another, in the order written.
 use Prim.Native.Nat.{ℕ, _+_, _*_}
+use mathlib.Core.Path.{_≡_}
 use mathlib.Core.Bool.{cond, _&&_}
 use lib.Ieee.{Float, binary64, neg, lt, le, ofBits}
 use Rattle.std.specs.Floats as Floats
@@ -47,6 +48,14 @@ abbrev pub arc : Float → Float
 arc v =
     cond (lt one64 v) (half-pi ⊖ arc-within (one64 ⊘ v))
     (cond (lt v (neg one64)) (neg half-pi ⊖ arc-within (one64 ⊘ v))
+    (arc-within v))
+
+-- which is the rule by A itself: 1/v is at most 1 in magnitude there
+abbrev pub ArcRule : Type 0
+ArcRule = (v : Float)
+    → arc v
+    ≡ cond (lt one64 v) (half-pi ⊖ arc (one64 ⊘ v))
+    (cond (lt v (neg one64)) (neg half-pi ⊖ arc (one64 ⊘ v))
     (arc-within v))
 
 -- the angle of (x, y): beside the y axis by y / x, on it by the sign of y alone

@@ -1,9 +1,11 @@
 -- Sine and cosine of the series host: one rounded operation after another, in the order written.
-use Prim.Native.Nat.{ℕ, _+_, _-_, _*_}
-use mathlib.Core.Bool.{cond}
-use lib.Dec.{eqb}
-use lib.IntN.{pos, natAbs}
+use Prim.Native.Nat.{ℕ, _+_, _-_, _*_, _^_, _≤_, _<_}
+use mathlib.Core.Path.{_≡_}
+use mathlib.Core.Bool.{Bool, cond}
+use lib.Dec.{T, eqb}
+use lib.IntN.{ℤ, pos, natAbs, negℤ, _+ℤ_, _*ℤ_}
 use lib.Ieee.{Float, binary64, neg, le, toSigned, ofBits}
+use lib.Ieee.Exact.{HasValue}
 use Rattle.std.specs.Floats as Floats
 use Rattle.std.specs.Numbers.{remEuclid}
 use Rattle.std.specs.declared.option.Option.{Option}
@@ -65,3 +67,16 @@ sin-answer x = cond (le (size x) farthest) (Some (sine (quarters x) (rest x (qua
 
 abbrev pub cos-answer : Float → Option Float
 cos-answer x = cond (le (size x) farthest) (Some (cosine (quarters x) (rest x (quarters x)))) None
+
+-- the integer of a sign and a magnitude
+abbrev pub signed : Bool → ℕ → ℤ
+signed s h = cond s (negℤ (pos h)) (pos h)
+
+-- q is ±h, at most 2^21 in magnitude, and so is its integer; its quadrant is what it has over the multiple 4k
+abbrev pub Whole : Float → Type 0
+Whole q = (s : Bool) × (h : ℕ) × (k : ℤ) × (h ≤ 2 ^ 21) × HasValue q s h 1 × (toSigned 63 q ≡ signed s h)
+    × (signed s h ≡ pos 4 *ℤ k +ℤ pos (quadrant q)) × (quadrant q < 4)
+
+-- the quarter turns lose nothing, for every angle that is answered
+abbrev pub WholeQuarters : Type 0
+WholeQuarters = (x : Float) → T (le (size x) farthest) → Whole (quarters x)

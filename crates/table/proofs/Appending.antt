@@ -32,13 +32,15 @@ ended-last (c ∷ cs) = ended-more [] c cs
 
 module _ (t0 : List Record) (h0 : Head) (ps0 : List Point) where
   -- a is the line so far, ps is still to come, f is free
-  pub record Append (t : List Record) (h : Head) (before : ℕ) (ps : List Point) (a f : List Node) : Type 0 where
+  pub record Append (t : List Record) (h : Head) (before : ℕ) (ps : List Point) (a f : List Node)
+      : Type 0 where
     pub place : Place t (h .first) (h .free) before 0 a [] f
     pub kept : Kept t0 t
     pub count-is : h .count ≡ length a
     pub total : length a + length f + 1 ≡ length t
     pub room : length ps ≤ length f
-    pub line : a ++ newNodes (h0 .newest + 1) f ps ≡ lineOf t0 h0 ++ newNodes (h0 .newest + 1) (freeOf t0 h0) ps0
+    pub line : a ++ newNodes (h0 .newest + 1) f ps
+        ≡ lineOf t0 h0 ++ newNodes (h0 .newest + 1) (freeOf t0 h0) ps0
     pub rest : drop (length ps) f ≡ drop (length ps0) (freeOf t0 h0)
     pub top : AllHeld (UpTo (h0 .newest + 1)) a
 
@@ -67,7 +69,7 @@ module _ (t0 : List Record) (h0 : Head) (ps0 : List Point) where
           kept = kept-refl t0;
           count-is = sym n;
           total = all;
-          room = omega arith;
+          room = omega (arith, w .fits);
           line = refl;
           rest = refl;
           top = all-map (UpTo (h0 .newest)) (UpTo (h0 .newest + 1)) (λ g p. omega arith) (lineOf t0 h0)
@@ -82,7 +84,8 @@ module _ (t0 : List Record) (h0 : Head) (ps0 : List Point) where
     step a (c ∷ f) u l =
         let e = h0 .newest + 1 in
         let r = filled p 0 e in
-        let same : node (h .free) (heldIn r) ≡ node (c .index) (heldIn r) = node-same (u .place .spare .0) refl in
+        let same : node (h .free) (heldIn r) ≡ node (c .index) (heldIn r) =
+        node-same (u .place .spare .0) refl in
         let kept = kept-insert t before (h .free) r (u .place .spare .1) in (
           a ++ node (h .free) (heldIn r) ∷ [],
           f,
@@ -99,7 +102,8 @@ module _ (t0 : List Record) (h0 : Head) (ps0 : List Point) where
           },
         )
 
-    inside : (a f : List Node) → Append t h before (p ∷ ps) a f → (h .free < length t) × (h .count + 1 < length t)
+    inside : (a f : List Node) → Append t h before (p ∷ ps) a f
+        → (h .free < length t) × (h .count + 1 < length t)
     inside a [] u = absurd (omega (arith, u .room))
     inside a (c ∷ f) u = (u .place .spare .2, omega (arith, u .count-is, u .total))
 

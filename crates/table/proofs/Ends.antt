@@ -35,9 +35,10 @@ module _ (t : List Record) (h : Head) (w : Whole t h) where
     spare = seg.seg-of t freeNumber freeNumber (freeCount t h) (h .free) (w .free);
     ends = inl (refl, refl);
     line-a = tt;
-    line-b = all-map (Numbered 0 (h .newest)) InLine (λ g p. omega (arith, w .latest, p .1)) (lineOf t h) line-held;
-    frees = all-map (Numbered freeNumber freeNumber) IsFree (λ g p. omega (arith, p .0, p .1)) (freeOf t h)
-        free-held;
+    line-b = all-map (Numbered 0 (h .newest)) InLine (λ g p. omega (arith, w .latest, p .1))
+        (lineOf t h) line-held;
+    frees = all-map (Numbered freeNumber freeNumber) IsFree (λ g p. omega (arith, p .0, p .1))
+        (freeOf t h) free-held;
   }
 
   pub start-held : AllHeld (UpTo (h .newest)) (lineOf t h)
@@ -61,7 +62,8 @@ pub place-end : (t : List Record) (h : Head) (before : ℕ) (a f : List Node)
 place-end t h before a f m latest top n total =
     let free-n : freeCount t h ≡ length f = omega arith in
     let line = all-map (UpTo (h .newest)) (Numbered 0 (h .newest)) (λ g p. (omega arith, p)) a top in
-    let free = all-map IsFree (Numbered freeNumber freeNumber) (λ g p. (omega arith, omega arith)) f (m .frees) in
+    let free =
+    all-map IsFree (Numbered freeNumber freeNumber) (λ g p. (omega arith, omega arith)) f (m .frees) in
     record {
       whole = record {
         fits = omega arith;

@@ -2,6 +2,7 @@ pub mod Segments
 pub mod Places
 pub mod Moves
 pub mod Ends
+pub mod Apart
 pub mod Zeroth
 pub mod Steps
 pub mod Appending

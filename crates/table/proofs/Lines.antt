@@ -36,9 +36,11 @@ before-held e (c ∷ cs) =
     [ true ↦ ap (λ v. c .held ∷ v) (before-held e cs) | false ↦ before-held e cs ]
 
 -- all was put there before
-pub before-all : (e : ℕ) (cs : List Node) → AllHeld (λ g. g .edit < e) cs → heldBefore e (heldBy cs) ≡ heldBy cs
+pub before-all : (e : ℕ) (cs : List Node) → AllHeld (λ g. g .edit < e) cs
+    → heldBefore e (heldBy cs) ≡ heldBy cs
 before-all e [] w = refl
-before-all e (c ∷ cs) w = rw (lt-ltb (c .held .edit) e (w .0)) (ap (λ v. c .held ∷ v) (before-all e cs (w .1)))
+before-all e (c ∷ cs) w =
+    rw (lt-ltb (c .held .edit) e (w .0)) (ap (λ v. c .held ∷ v) (before-all e cs (w .1)))
 
 before-twice : (i e : ℕ) (gs : List Held) → i ≤ e → heldBefore i (heldBefore e gs) ≡ heldBefore i gs
 before-twice i e [] h = refl
@@ -121,7 +123,7 @@ module _ (t : List Record) (h : Head) (t' : List Record) (h' : Head) where
     grown =
         let e = h .newest + 1 in
         let n = length-nodes t (h .count) (h .first) in
-        let room : length ps ≤ length (freeOf t h) = omega (arith, start-total t h w) in
+        let room : length ps ≤ length (freeOf t h) = omega (arith, w .fits, start-total t h w) in
         ap heldBy (u .line)
         ∙ (map-append (λ c. c .held) (lineOf t h) (newNodes e (freeOf t h) ps)
         ∙ ap (λ v. heldLine t h ++ v) (held-new e (freeOf t h) ps room))
@@ -139,7 +141,8 @@ module _ (t : List Record) (h : Head) (t' : List Record) (h' : Head) where
         let gs : List Held = heldLine t h in
         let n = h .newest in
         let up : h' .newest ≡ suc n = omega (arith, u .newest) in
-        let under = all-map (UpTo n) (λ g. g .edit < suc n) (λ x p. omega arith) (lineOf t h) (start-held t h w) in
+        let under =
+        all-map (UpTo n) (λ g. g .edit < suc n) (λ x p. omega arith) (lineOf t h) (start-held t h w) in
         let top : heldBefore (suc n) (heldLine t' h') ≡ gs =
         ap (heldBefore (suc n)) grown
         ∙ (before-new (suc n) (n + 1) gs ps (omega arith) ∙ before-all (suc n) (lineOf t h) under) in

@@ -9,11 +9,10 @@ use borrow.Author.Tests.{lt-ltb, le-ltb}
 use native.Mathlib.Omega.{arith}
 use Rattle.table.specs.declared.Record.{Record}
 use Rattle.table.specs.Chains.{Chained, at}
-use Rattle.table.specs.Format.{follower}
-use Rattle.table.specs.Links.{freed}
+use Rattle.table.specs.Format.{follower, InOrder}
 use Rattle.table.specs.Numbers.{freeNumber}
 
-module _ (t : List Record) (each : (k : ℕ) → 1 ≤ k → k < length t → at t k ≡ freed (follower (length t) k)) where
+module _ (t : List Record) (each : InOrder t) where
   pub in-order : (n i : ℕ) → 1 ≤ i → i + n ≡ length t → 1 ≤ n → Chained t freeNumber freeNumber n i
   in-order zero i p q r = absurd (omega arith)
   in-order (suc zero) i p q r =

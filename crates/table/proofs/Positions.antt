@@ -9,8 +9,8 @@ use Rattle.std.specs.declared.option.Option.the-variants.{Some, None}
 use Rattle.std.specs.shelf.Maps.{nth}
 use Rattle.std.proofs.shelf.Maps.{nth-past}
 use Rattle.table.specs.declared.Record.{Record}
-use Rattle.table.specs.Chains.{Chained, at, indexAt}
-use Rattle.table.specs.Lines.{lineFrom, pointIn}
+use Rattle.table.specs.Chains.{Chained, at, indexAt, pointIn}
+use Rattle.table.specs.Lines.{lineFrom}
 
 pub index-on : (t : List Record) (i n : ℕ) → indexAt t i (suc n) ≡ at t (indexAt t i n) .next
 index-on t i zero = refl

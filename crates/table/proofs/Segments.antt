@@ -30,7 +30,8 @@ node k g = record { index = k; held = g }
 pub node-same : {i k : ℕ} {g h : Held} → i ≡ k → g ≡ h → node i g ≡ node k h
 node-same {i} {k} {g} {h} p q = ap (λ v. node v g) p ∙ ap (λ v. node k v) q
 
-pub all-map : (P Q : Held → Type 0) → ((g : Held) → P g → Q g) → (cs : List Node) → AllHeld P cs → AllHeld Q cs
+pub all-map : (P Q : Held → Type 0) → ((g : Held) → P g → Q g)
+    → (cs : List Node) → AllHeld P cs → AllHeld Q cs
 all-map P Q k [] w = tt
 all-map P Q k (c ∷ cs) w = (k (c .held) (w .0), all-map P Q k cs (w .1))
 

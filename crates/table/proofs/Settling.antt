@@ -61,7 +61,8 @@ module _ (t0 : List Record) (h : Head) where
           a ++ node here (heldIn r) ∷ [],
           b,
           record {
-            place = place-mark t (h .first) (h .free) before here a b (freeOf t0 h) c (u .place) r refl (omega arith);
+            place = place-mark t (h .first) (h .free) before here a b (freeOf t0 h) c (u .place) r refl
+                (omega arith);
             kept = kept-then t0 t (set t here r) (u .kept) kept;
             left-is = omega (arith, u .left-is);
             count-is = simp length-append (omega (arith, u .count-is));

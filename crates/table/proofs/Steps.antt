@@ -46,4 +46,5 @@ module _ (a b x y : ℕ) where
   in-both e = let p = and-parts (leb a b) (leb x y) e in (leb-true a b (p .0), leb-true x y (p .1))
 
   pub not-both : (leb a b && leb x y) ≡ false → a ≤ b → x ≤ y → ⊥
-  not-both e h k = both-ways (leb a b && leb x y) e (and-from (leb a b) (leb x y) (le-leb a b h) (le-leb x y k))
+  not-both e h k =
+      both-ways (leb a b && leb x y) e (and-from (leb a b) (leb x y) (le-leb a b h) (le-leb x y k))

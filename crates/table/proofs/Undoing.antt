@@ -61,8 +61,8 @@ module _ (t0 : List Record) (h0 : Head) where
       )
 
   module _ (t : List Record) (h : Head) (before here left : ℕ) where
-    step-keep : (a b f : List Node) → Undo t h before here left a b f → 0 < left → at t here .edit ≢ h0 .newest
-        → Undoing t h here (at t here .next) (left - 1)
+    step-keep : (a b f : List Node) → Undo t h before here left a b f → 0 < left
+        → at t here .edit ≢ h0 .newest → Undoing t h here (at t here .next) (left - 1)
     step-keep a [] f u l n = absurd (omega (arith, u .left-is))
     step-keep a (c ∷ b) f u l n =
         let e = h0 .newest in
@@ -90,8 +90,10 @@ module _ (t0 : List Record) (h0 : Head) where
           },
         )
 
-    step-drop : (a b f : List Node) → Undo t h before here left a b f → 0 < left → at t here .edit ≡ h0 .newest
-        → Undoing (releasedTable t h before here) (releasedHead t h before here) before (at t here .next) (left - 1)
+    step-drop : (a b f : List Node) → Undo t h before here left a b f → 0 < left
+        → at t here .edit ≡ h0 .newest
+        → Undoing (releasedTable t h before here) (releasedHead t h before here) before (at t here .next)
+        (left - 1)
     step-drop a [] f u l q = absurd (omega (arith, u .left-is))
     step-drop a (c ∷ b) f u l q =
         let e = h0 .newest in
@@ -165,5 +167,6 @@ module _ (t0 : List Record) (h0 : Head) where
       undo-end = last (u .0) (u .1) (u .2) (u .3)
 
       pub undo-at : (t' : List Record) (h' : Head) (before' here' left' : ℕ)
-          → t' ≡ t → h' ≡ h → before' ≡ before → here' ≡ here → left' ≡ left → Undoing t' h' before' here' left'
+          → t' ≡ t → h' ≡ h → before' ≡ before → here' ≡ here → left' ≡ left
+          → Undoing t' h' before' here' left'
       undo-at t' h' before' here' left' p1 p2 p3 p4 p5 = rw (p1, p2, p3, p4, p5) u

@@ -16,7 +16,7 @@ use Rattle.table.specs.declared.Head.{Head}
 use Rattle.table.specs.Chains.{Node}
 use Rattle.table.specs.Numbers.{lastEdit}
 use Rattle.table.specs.Outcomes.{Unchanged, Kept}
-use Rattle.table.specs.Whole.{Checked, Whole, BadTable, lineOf, freeOf}
+use Rattle.table.specs.Whole.{Checked, Whole, BadTable, lineOf, freeOf, freeCount}
 
 -- the index of the last record of a chain, or d where there is none
 abbrev pub lastIndex : ℕ → List Node → ℕ
@@ -27,10 +27,12 @@ lastIndex d (n ∷ ns) = lastIndex (n .index) ns
 abbrev pub newNodes : ℕ → List Node → List Point → List Node
 newNodes e f [] = []
 newNodes e [] (p ∷ ps) = []
-newNodes e (n ∷ f) (p ∷ ps) = record { index = n .index; held = record { point = p; edit = e } } ∷ newNodes e f ps
+newNodes e (n ∷ f) (p ∷ ps) =
+    record { index = n .index; held = record { point = p; edit = e } } ∷ newNodes e f ps
 
 -- records from the front of the free chain hold the points, in order, behind the line's records
-pub record Appended (t : List Record) (h : Head) (ps : List Point) (t' : List Record) (h' : Head) : Type 0 where
+pub record Appended (t : List Record) (h : Head) (ps : List Point) (t' : List Record) (h' : Head)
+    : Type 0 where
   pub whole : Whole t' h'
   pub kept : Kept t t'
   pub line : lineOf t' h' ≡ lineOf t h ++ newNodes (h .newest + 1) (freeOf t h) ps
@@ -45,38 +47,46 @@ abbrev pub firstUnfit : ℕ → List Point → ℕ
 firstUnfit k [] = 0
 firstUnfit k (p ∷ ps) = cond (finitePoint p) (firstUnfit (k + 1) ps) (k + 1)
 
--- there are as many free records as points
+-- there is a free record for each point
 abbrev pub HasRoom : List Record → Head → List Point → Type 0
-HasRoom t h ps = length ps + h .count < length t
+HasRoom t h ps = length ps ≤ freeCount t h
 
-pub record AppendOk (t : List Record) (h : Head) (ps : List Point) (t' : List Record) (h' : Head) : Type 0 where
+-- an accepted append: every check is passed
+pub record AppendOk (t : List Record) (h : Head) (ps : List Point) (t' : List Record) (h' : Head)
+    : Type 0 where
   pub checked : Checked t h
   pub fit : firstUnfit 0 ps ≡ 0
-  pub some : h .newest < lastEdit
+  pub left : h .newest < lastEdit
   pub room : HasRoom t h ps
   pub done : Appended t h ps t' h'
 
--- refusal 3
+-- the fault of the point at this place
+pub record NotFiniteAt (place : ℕ) (f : Fault) : Type 0 where
+  pub cause : 0 < place
+  pub fault : f ≡ placed place (raised NotFinite Table)
+
+-- refusal 3: a coordinate is not finite
 pub record Unfit (t : List Record) (h : Head) (ps : List Point) (f : Fault) : Type 0 where
   pub checked : Checked t h
-  pub cause : 0 < firstUnfit 0 ps
-  pub fault : f ≡ placed (firstUnfit 0 ps) (raised NotFinite Table)
+  pub first : NotFiniteAt (firstUnfit 0 ps) f
 
--- refusal 7
+-- refusal 7: no edit number is left
 pub record NoNumber (t : List Record) (h : Head) (ps : List Point) (f : Fault) : Type 0 where
   pub checked : Checked t h
   pub fit : firstUnfit 0 ps ≡ 0
   pub cause : h .newest ≡ lastEdit
   pub fault : f ≡ raised NoEditNumber Table
 
--- refusal 6
-pub record NoneFree (t : List Record) (h : Head) (ps : List Point) (f : Fault) : Type 0 where
+-- refusal 6: there are fewer free records than points
+pub record TooFewFree (t : List Record) (h : Head) (ps : List Point) (f : Fault) : Type 0 where
   pub checked : Checked t h
   pub fit : firstUnfit 0 ps ≡ 0
-  pub some : h .newest < lastEdit
+  pub left : h .newest < lastEdit
   pub cause : HasRoom t h ps → ⊥
   pub fault : f ≡ raised NoRoom Table
 
-pub record AppendErr (t : List Record) (h : Head) (ps : List Point) (f : Fault) (t' : List Record) (h' : Head) : Type 0 where
+-- a refused append: the first check that fails gives the cause
+pub record AppendErr (t : List Record) (h : Head) (ps : List Point) (f : Fault)
+    (t' : List Record) (h' : Head) : Type 0 where
   pub same : Unchanged t h t' h'
-  pub cause : BadTable t h f ⊎ Unfit t h ps f ⊎ NoNumber t h ps f ⊎ NoneFree t h ps f
+  pub cause : BadTable t h f ⊎ Unfit t h ps f ⊎ NoNumber t h ps f ⊎ TooFewFree t h ps f

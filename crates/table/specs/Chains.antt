@@ -25,13 +25,16 @@ abbrev pub indexAt : List Record → ℕ → ℕ → ℕ
 indexAt t i zero = i
 indexAt t i (suc n) = indexAt t (at t i .next) n
 
+abbrev pub pointIn : Record → Point
+pointIn r = record { x = r .x; y = r .y }
+
 -- what a record holds besides its link: a point and the number of the edit that put it there
 pub record Held : Type 0 where
   pub point : Point
   pub edit : ℕ
 
 abbrev pub heldIn : Record → Held
-heldIn r = record { point = record { x = r .x; y = r .y }; edit = r .edit }
+heldIn r = record { point = pointIn r; edit = r .edit }
 
 -- a record of a chain: its index, and what it holds
 pub record Node : Type 0 where

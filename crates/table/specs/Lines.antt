@@ -6,11 +6,8 @@ use lib.Dec.{ltb}
 use Rattle.points.specs.declared.point.Point.{Point}
 use Rattle.table.specs.declared.Record.{Record}
 use Rattle.table.specs.declared.Head.{Head}
-use Rattle.table.specs.Chains.{Held, heldIn, Node, nodes}
+use Rattle.table.specs.Chains.{Held, Node, nodes}
 use Rattle.table.specs.Whole.{lineOf}
-
-abbrev pub pointIn : Record → Point
-pointIn r = heldIn r .point
 
 abbrev pub pointsOf : List Held → List Point
 pointsOf gs = map (λ g. g .point) gs
@@ -30,12 +27,13 @@ keptLine t h = lineFrom t (h .count) (h .first)
 abbrev pub heldLine : List Record → Head → List Held
 heldLine t h = heldBy (lineOf t h)
 
--- what was put there before edit e
+-- what was put there before edit e, with a number of at most e − 1
 abbrev pub heldBefore : ℕ → List Held → List Held
 heldBefore e [] = []
 heldBefore e (g ∷ gs) = cond (ltb (g .edit) e) (g ∷ heldBefore e gs) (heldBefore e gs)
 
--- the lines set aside by the edits n, n − 1 down to 1: each edit set aside the line without itself and what followed
+-- the lines set aside by the edits n down to 1: edit i set aside the line without the records numbered
+-- above i − 1
 abbrev pub linesBefore : ℕ → List Held → List (List Point)
 linesBefore zero gs = []
 linesBefore (suc n) gs = pointsOf (heldBefore (suc n) gs) ∷ linesBefore n gs

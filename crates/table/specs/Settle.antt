@@ -20,10 +20,12 @@ pub record Settled (t : List Record) (h : Head) (t' : List Record) (h' : Head) :
   pub free : freeOf t' h' ≡ freeOf t h
   pub newest : h' .newest ≡ 0
 
+-- an accepted settle
 pub record SettleOk (t : List Record) (h : Head) (t' : List Record) (h' : Head) : Type 0 where
   pub checked : Checked t h
   pub done : Settled t h t' h'
 
+-- a refused settle
 pub record SettleErr (t : List Record) (h : Head) (f : Fault) (t' : List Record) (h' : Head) : Type 0 where
   pub same : Unchanged t h t' h'
   pub cause : BadTable t h f

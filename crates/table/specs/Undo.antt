@@ -28,7 +28,7 @@ freedSince e (n ∷ ns) f =
     cond (ltb (n .held .edit) e) (freedSince e ns f)
     (freedSince e ns (record { index = n .index; held = heldIn (freed 0) } ∷ f))
 
--- the newest edit's records are free, and all others keep their order
+-- the newest edit's records are free now, and all others keep their order
 pub record Undone (t : List Record) (h : Head) (t' : List Record) (h' : Head) : Type 0 where
   pub whole : Whole t' h'
   pub kept : Kept t t'
@@ -36,17 +36,19 @@ pub record Undone (t : List Record) (h : Head) (t' : List Record) (h' : Head) : 
   pub free : freeOf t' h' ≡ freedSince (h .newest) (lineOf t h) (freeOf t h)
   pub newest : h' .newest ≡ h .newest - 1
 
+-- an accepted undo
 pub record UndoOk (t : List Record) (h : Head) (t' : List Record) (h' : Head) : Type 0 where
   pub checked : Checked t h
   pub some : 0 < h .newest
   pub done : Undone t h t' h'
 
--- refusal 8
+-- refusal 8: there is no edit to take back
 pub record NoEdit (t : List Record) (h : Head) (f : Fault) : Type 0 where
   pub checked : Checked t h
   pub cause : h .newest ≡ 0
   pub fault : f ≡ raised NothingToUndo Table
 
+-- a refused undo
 pub record UndoErr (t : List Record) (h : Head) (f : Fault) (t' : List Record) (h' : Head) : Type 0 where
   pub same : Unchanged t h t' h'
   pub cause : BadTable t h f ⊎ NoEdit t h f

@@ -13,15 +13,16 @@ use Rattle.table.specs.declared.Head.{Head}
 use Rattle.table.specs.Chains.{Chained, Node, nodes}
 use Rattle.table.specs.Numbers.{freeNumber, lastEdit, mostRecords}
 
+-- a table has from 2 to 65,536 records
 pub record Sized (t : List Record) : Type 0 where
   pub least : 2 ≤ length t
   pub most : length t ≤ mostRecords
 
--- all records but record 0 and those of the line are free
+-- how many records are neither record 0 nor in the line
 abbrev pub freeCount : List Record → Head → ℕ
 freeCount t h = length t - 1 - h .count
 
--- the three rules: of the line, of the free records, and of the newest edit
+-- the rules: of the line, of the free records, and of the newest edit number
 pub record Whole (t : List Record) (h : Head) : Type 0 where
   pub fits : h .count < length t
   pub line : Chained t 0 (h .newest) (h .count) (h .first)
@@ -40,16 +41,17 @@ pub record Checked (t : List Record) (h : Head) : Type 0 where
   pub sized : Sized t
   pub whole : Whole t h
 
--- refusal 1
+-- refusal 1: the length is out of range
 pub record BadLength (t : List Record) (f : Fault) : Type 0 where
   pub cause : Sized t → ⊥
   pub fault : f ≡ raised TableLength Table
 
--- refusal 2, of a table whose length is right
+-- refusal 2: a table of the right length breaks a rule
 pub record NotWhole (t : List Record) (h : Head) (f : Fault) : Type 0 where
   pub sized : Sized t
   pub cause : Whole t h → ⊥
   pub fault : f ≡ raised TableNotWhole Table
 
+-- what every call on a formatted table refuses first
 abbrev pub BadTable : List Record → Head → Fault → Type 0
 BadTable t h f = BadLength t f ⊎ NotWhole t h f

@@ -5,12 +5,11 @@ use crate::links::free_record;
 use crate::whole::check_length;
 use points::fault::Fault;
 ghost use mathlib.Core.Path.{_≡_};
-ghost use Prim.Native.Nat.{ℕ, _+_, _<_, _≤_};
+ghost use Prim.Native.Nat.{_<_, _≤_};
 ghost use lib.ListN.{length, set};
 ghost use Rattle.std.specs.declared.result.Result.the-variants.{Ok, Err};
 ghost use Rattle.table.specs.Chains.{at as recordAt};
-ghost use Rattle.table.specs.Format.{Formatted, FormatOk, FormatErr, cleared, follower};
-ghost use Rattle.table.specs.Links.{freed};
+ghost use Rattle.table.specs.Format.{cleared, follower, InOrder, Formatted, FormatOk, FormatErr};
 ghost use Rattle.table.specs.Numbers.{mostRecords};
 ghost use Rattle.table.specs.Whole.{Sized};
 
@@ -27,7 +26,7 @@ fn next_in_order(index: usize, n: usize) -> u16
 fn chain_free(table: &mut [Record])
     requires { ⌜ Sized (now table) ⌝ }
     ensures zeroth { λ _. ⌜ recordAt (now (table .exit)) 0 ≡ recordAt (now (table .entry)) 0 ⌝ }
-    ensures each { λ _. ⌜ ((k : ℕ) → 1 ≤ k → k < length (now (table .exit)) → recordAt (now (table .exit)) k ≡ freed (follower (length (now (table .exit))) k)) ⌝ }
+    ensures each { λ _. ⌜ InOrder (now (table .exit)) ⌝ }
 {
     let n = table.len();
     for i in 1..n {
@@ -72,7 +71,10 @@ fn lay_out(table: &mut [Record]) -> Head
 }
 
 pub fn format(table: &mut [Record]) -> Result<Head, Fault>
-    ensures { λ r. ⌜ elim r [ Ok h ↦ FormatOk (now (table .entry)) (now (table .exit)) h | Err f ↦ FormatErr (now (table .entry)) (now (table .exit)) f ] ⌝ }
+    ensures { λ r. ⌜ elim r [
+      | Ok h ↦ FormatOk (now (table .entry)) (now (table .exit)) h
+      | Err f ↦ FormatErr (now (table .entry)) (now (table .exit)) f
+    ] ⌝ }
 {
     check_length(table)?;
     Ok(lay_out(table))

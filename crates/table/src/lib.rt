@@ -7,7 +7,14 @@ pub mod settle;
 pub mod undo;
 pub mod whole;
 
+use points::fault::Cause;
+use points::fault::Fault;
+use points::fault::Layer;
+use points::point::Point;
 ghost use mathlib.Core.Path.{_≡_};
+ghost use Rattle.std.specs.declared.result.Result.the-variants.{Ok, Err};
+ghost use Rattle.table.specs.Chains.{pointIn};
+ghost use Rattle.table.specs.Outcomes.{NextEdit, NoEditLeft};
 
 // The edit number of a free record.
 const FREE: u8 = 255;
@@ -37,6 +44,17 @@ pub struct Head {
     newest: u8,
 }
 
+impl Record {
+    pub fn point(self) -> Point
+        ensures { λ r. ⌜ r ≡ pointIn self ⌝ }
+    {
+        Point {
+            x: self.x,
+            y: self.y,
+        }
+    }
+}
+
 impl Head {
     pub fn count(&self) -> usize
         ensures { λ r. ⌜ r ≡ now (self .entry) .count ⌝ }
@@ -48,5 +66,18 @@ impl Head {
         ensures { λ r. ⌜ r ≡ now (self .entry) .newest ⌝ }
     {
         self.newest
+    }
+
+    // The number that the next edit gets, if one is left.
+    pub fn next_edit(&self) -> Result<u8, Fault>
+        ensures { λ r. ⌜ elim r [
+          | Ok e ↦ NextEdit (now (self .entry)) e
+          | Err f ↦ NoEditLeft (now (self .entry)) f
+        ] ⌝ }
+    {
+        if self.newest >= LAST_EDIT {
+            return Err(Fault::new(Cause::NoEditNumber, Layer::Table));
+        }
+        Ok(self.newest + 1)
     }
 }

@@ -4,10 +4,12 @@ use crate::Head;
 use crate::Record;
 use points::point::Point;
 ghost use mathlib.Core.Path.{_≡_};
-ghost use Prim.Native.Nat.{_<_};
+ghost use Prim.Native.Nat.{_+_, _<_};
 ghost use lib.ListN.{length, set};
 ghost use Rattle.table.specs.Chains.{at as recordAt};
-ghost use Rattle.table.specs.Links.{linkTable, linkHead, releasedTable, releasedHead, insertedTable, insertedHead, numbered, freed};
+ghost use Rattle.table.specs.Links.{freed, numbered, linkTable, linkHead};
+ghost use Rattle.table.specs.Links.{releasedTable, releasedHead, insertedTable, insertedHead};
+ghost use Rattle.table.specs.Numbers.{mostRecords};
 
 pub fn record_at(table: &[Record], index: u16) -> Record
     requires { ⌜ index < length (now table) ⌝ }
@@ -45,8 +47,10 @@ pub fn release(table: &mut [Record], head: &mut Head, before: u16, here: u16)
     requires before { ⌜ before < length (now table) ⌝ }
     requires here { ⌜ here < length (now table) ⌝ }
     requires some { ⌜ 0 < now head .count ⌝ }
-    ensures table { λ _. ⌜ now (table .exit) ≡ releasedTable (now (table .entry)) (now (head .entry)) before here ⌝ }
-    ensures head { λ _. ⌜ now (head .exit) ≡ releasedHead (now (table .entry)) (now (head .entry)) before here ⌝ }
+    ensures table { λ _. ⌜
+        now (table .exit) ≡ releasedTable (now (table .entry)) (now (head .entry)) before here ⌝ }
+    ensures head { λ _. ⌜
+        now (head .exit) ≡ releasedHead (now (table .entry)) (now (head .entry)) before here ⌝ }
 {
     let next = record_at(table, here).next;
     link(table, head, before, next);
@@ -59,8 +63,9 @@ pub fn release(table: &mut [Record], head: &mut Head, before: u16, here: u16)
 pub fn insert(table: &mut [Record], head: &mut Head, before: u16, here: u16, point: Point, edit: u8)
     requires before { ⌜ before < length (now table) ⌝ }
     requires free { ⌜ now head .free < length (now table) ⌝ }
-    requires room { ⌜ now head .count < 65535 ⌝ }
-    ensures table { λ _. ⌜ now (table .exit) ≡ insertedTable (now (table .entry)) (now (head .entry)) before here point edit ⌝ }
+    requires room { ⌜ now head .count + 1 < mostRecords ⌝ }
+    ensures table { λ _. ⌜
+        now (table .exit) ≡ insertedTable (now (table .entry)) (now (head .entry)) before here point edit ⌝ }
     ensures head { λ _. ⌜ now (head .exit) ≡ insertedHead (now (table .entry)) (now (head .entry)) before ⌝ }
 {
     let taken = head.free;
@@ -78,7 +83,9 @@ pub fn insert(table: &mut [Record], head: &mut Head, before: u16, here: u16, poi
 // Gives the record another edit number, and answers with its link.
 pub fn renumber(table: &mut [Record], here: u16, edit: u8) -> u16
     requires { ⌜ here < length (now table) ⌝ }
-    ensures table { λ _. ⌜ now (table .exit) ≡ set (now (table .entry)) here (numbered (recordAt (now (table .entry)) here) edit) ⌝ }
+    ensures table { λ _. ⌜
+        now (table .exit)
+        ≡ set (now (table .entry)) here (numbered (recordAt (now (table .entry)) here) edit) ⌝ }
     ensures next { λ r. ⌜ r ≡ recordAt (now (table .entry)) here .next ⌝ }
 {
     let next = record_at(table, here).next;

@@ -11,7 +11,8 @@ ghost use Rattle.table.specs.Whole.{Checked};
 // Settle on a table that is checked.
 fn forget_edits(table: &mut [Record], head: &mut Head)
     requires { ⌜ Checked (now table) (now head) ⌝ }
-    ensures { λ _. ⌜ Settled (now (table .entry)) (now (head .entry)) (now (table .exit)) (now (head .exit)) ⌝ }
+    ensures { λ _. ⌜
+        Settled (now (table .entry)) (now (head .entry)) (now (table .exit)) (now (head .exit)) ⌝ }
 {
     let count = head.count;
     let mut here = head.first;
@@ -22,7 +23,10 @@ fn forget_edits(table: &mut [Record], head: &mut Head)
 }
 
 pub fn settle(table: &mut [Record], head: &mut Head) -> Result<(), Fault>
-    ensures { λ r. ⌜ elim r [ Ok _ ↦ SettleOk (now (table .entry)) (now (head .entry)) (now (table .exit)) (now (head .exit)) | Err f ↦ SettleErr (now (table .entry)) (now (head .entry)) f (now (table .exit)) (now (head .exit)) ] ⌝ }
+    ensures { λ r. ⌜ elim r [
+      | Ok _ ↦ SettleOk (now (table .entry)) (now (head .entry)) (now (table .exit)) (now (head .exit))
+      | Err f ↦ SettleErr (now (table .entry)) (now (head .entry)) f (now (table .exit)) (now (head .exit))
+    ] ⌝ }
 {
     check(table, head)?;
     forget_edits(table, head);

@@ -24,7 +24,8 @@ fn is_newest(edit: u8, newest: u8) -> bool
 fn take_back(table: &mut [Record], head: &mut Head)
     requires checked { ⌜ Checked (now table) (now head) ⌝ }
     requires some { ⌜ 0 < now head .newest ⌝ }
-    ensures { λ _. ⌜ Undone (now (table .entry)) (now (head .entry)) (now (table .exit)) (now (head .exit)) ⌝ }
+    ensures { λ _. ⌜
+        Undone (now (table .entry)) (now (head .entry)) (now (table .exit)) (now (head .exit)) ⌝ }
 {
     let newest = head.newest;
     let count = head.count;
@@ -43,7 +44,10 @@ fn take_back(table: &mut [Record], head: &mut Head)
 }
 
 pub fn undo(table: &mut [Record], head: &mut Head) -> Result<(), Fault>
-    ensures { λ r. ⌜ elim r [ Ok _ ↦ UndoOk (now (table .entry)) (now (head .entry)) (now (table .exit)) (now (head .exit)) | Err f ↦ UndoErr (now (table .entry)) (now (head .entry)) f (now (table .exit)) (now (head .exit)) ] ⌝ }
+    ensures { λ r. ⌜ elim r [
+      | Ok _ ↦ UndoOk (now (table .entry)) (now (head .entry)) (now (table .exit)) (now (head .exit))
+      | Err f ↦ UndoErr (now (table .entry)) (now (head .entry)) f (now (table .exit)) (now (head .exit))
+    ] ⌝ }
 {
     check(table, head)?;
     if head.newest == 0 {

@@ -23,6 +23,7 @@ fn in_table(index: usize, n: usize) -> bool
     index >= 1 && index < n
 }
 
+// Whether an edit number is one of its chain.
 fn in_range(edit: u8, least: u8, most: u8) -> bool
     ensures { λ r. ⌜ r ≡ (leb least edit && leb edit most) ⌝ }
 {
@@ -30,7 +31,7 @@ fn in_range(edit: u8, least: u8, most: u8) -> bool
 }
 
 // Whether the chain from `start` ends after exactly `n` records, each with an edit number from `least` to
-// `most`. A forged chain is followed no further than that.
+// `most`. It takes no more than `n` steps, whatever the links are.
 fn ends_after(table: &[Record], start: u16, n: usize, least: u8, most: u8) -> bool
     ensures sound { λ r. ⌜ (r ≡ true → Chained (now (table .entry)) least most n start) ⌝ }
     ensures complete { λ r. ⌜ (Chained (now (table .entry)) least most n start → r ≡ true) ⌝ }
@@ -48,6 +49,7 @@ fn ends_after(table: &[Record], start: u16, n: usize, least: u8, most: u8) -> bo
     index == 0
 }
 
+// Whether the links and edit numbers keep the rules.
 pub fn is_whole(table: &[Record], head: &Head) -> bool
     ensures sound { λ r. ⌜ (r ≡ true → Whole (now (table .entry)) (now (head .entry))) ⌝ }
     ensures complete { λ r. ⌜ (Whole (now (table .entry)) (now (head .entry)) → r ≡ true) ⌝ }
@@ -60,8 +62,12 @@ pub fn is_whole(table: &[Record], head: &Head) -> bool
         && ends_after(table, head.free, n - 1 - count, FREE, FREE)
 }
 
+// Whether a table may have so many records.
 pub fn check_length(table: &[Record]) -> Result<(), Fault>
-    ensures { λ r. ⌜ elim r [ Ok _ ↦ Sized (now (table .entry)) | Err f ↦ BadLength (now (table .entry)) f ] ⌝ }
+    ensures { λ r. ⌜ elim r [
+      | Ok _ ↦ Sized (now (table .entry))
+      | Err f ↦ BadLength (now (table .entry)) f
+    ] ⌝ }
 {
     if table.len() < 2 || table.len() > MOST_RECORDS {
         return Err(Fault::new(Cause::TableLength, Layer::Table));
@@ -71,7 +77,10 @@ pub fn check_length(table: &[Record]) -> Result<(), Fault>
 
 // What every call on a formatted table asks first.
 pub fn check(table: &[Record], head: &Head) -> Result<(), Fault>
-    ensures { λ r. ⌜ elim r [ Ok _ ↦ Checked (now (table .entry)) (now (head .entry)) | Err f ↦ BadTable (now (table .entry)) (now (head .entry)) f ] ⌝ }
+    ensures { λ r. ⌜ elim r [
+      | Ok _ ↦ Checked (now (table .entry)) (now (head .entry))
+      | Err f ↦ BadTable (now (table .entry)) (now (head .entry)) f
+    ] ⌝ }
 {
     check_length(table)?;
     if !is_whole(table, head) {

@@ -11,36 +11,33 @@ ghost use mathlib.Core.List.{[]};
 ghost use mathlib.Core.Path.{_≡_};
 ghost use Prim.Native.Nat.{ℕ, _<_};
 ghost use lib.ListN.{length};
-ghost use Rattle.table.specs.Chains.{at as recordAt, indexAt};
-ghost use Rattle.table.specs.Lines.{lineFrom, keptLine, pointIn};
+ghost use Rattle.table.specs.Chains.{indexAt};
+ghost use Rattle.table.specs.Lines.{lineFrom, keptLine};
 ghost use Rattle.table.specs.Whole.{Checked};
-
-fn point_at(table: &[Record], index: u16) -> Point
-    requires { ⌜ index < length (now table) ⌝ }
-    ensures { λ r. ⌜ r ≡ pointIn (recordAt (now (table .entry)) index) ⌝ }
-{
-    Point {
-        x: table[index as usize].x,
-        y: table[index as usize].y,
-    }
-}
 
 impl<'a> Chain<'a> {
     // The kept points, and none where the table is refused.
     pub fn new(table: &'a [Record], head: &Head) -> Chain<'a>
-        ensures kept { λ r. ⌜ (Checked (now (table .entry)) (now (head .entry)) → lineFrom (now (r .table)) (r .count) (r .first) ≡ keptLine (now (table .entry)) (now (head .entry))) ⌝ }
-        ensures refused { λ r. ⌜ ((Checked (now (table .entry)) (now (head .entry)) → ⊥) → lineFrom (now (r .table)) (r .count) (r .first) ≡ []) ⌝ }
+        ensures kept { λ r. ⌜
+            (Checked (now (table .entry)) (now (head .entry))
+            → lineFrom (now (r .table)) (r .count) (r .first)
+            ≡ keptLine (now (table .entry)) (now (head .entry))) ⌝ }
+        ensures refused { λ r. ⌜
+            ((Checked (now (table .entry)) (now (head .entry)) → ⊥)
+            → lineFrom (now (r .table)) (r .count) (r .first) ≡ []) ⌝ }
         ensures first { λ r. ⌜ r .at ≡ 0 ⌝ }
     {
         match check(table, head) {
-            Ok(()) => Chain::from(table, head.first, head.count),
-            Err(_) => Chain::from(table, 0, 0),
+            Ok(()) => Chain::begin(table, head.first, head.count),
+            Err(_) => Chain::begin(table, 0, 0),
         }
     }
 
-    fn from(table: &'a [Record], first: u16, count: u16) -> Chain<'a>
+    // At the first of `count` records, which all lie in the table.
+    fn begin(table: &'a [Record], first: u16, count: u16) -> Chain<'a>
         requires { ⌜ ((k : ℕ) → k < count → indexAt (now table) first k < length (now table)) ⌝ }
-        ensures coords { λ r. ⌜ lineFrom (now (r .table)) (r .count) (r .first) ≡ lineFrom (now (table .entry)) count first ⌝ }
+        ensures coords { λ r. ⌜
+            lineFrom (now (r .table)) (r .count) (r .first) ≡ lineFrom (now (table .entry)) count first ⌝ }
         ensures first { λ r. ⌜ r .at ≡ 0 ⌝ }
     {
         Chain {
@@ -69,7 +66,7 @@ pub impl CoordsIter for Chain<'_> as ChainCoords {
 
     fn current(&self) -> Option<Point> {
         if self.at < self.count {
-            Some(point_at(self.table, self.here))
+            Some(record_at(self.table, self.here).point())
         } else {
             None
         }

@@ -29,4 +29,5 @@ loop-k-again c =
 
 pub returns : need.returns
 returns c =
-    sym (last-none (c .args .table .now) _ (c .loop-k .-k) (c .loop-k .here) _ (omega arith)) ∙ c .loop-k .inv .1
+    sym (last-none (c .args .table .now) _ (c .loop-k .-k) (c .loop-k .here) _ (omega arith))
+    ∙ c .loop-k .inv .1

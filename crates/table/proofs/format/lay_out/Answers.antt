@@ -19,7 +19,8 @@ returns c =
     let size : length t ≡ length t0 = omega arith in
     let first = ap (λ v. at v 0) (c .clear-first .ensures) ∙ getD-set-same t0 0 cleared blank lt in
     let none = c .new-head .ensures .count in
-    let chain = in-order t (c .chain-free .ensures .each) (freeCount t h) 1 (omega arith) (omega arith) (omega arith) in
+    let chain =
+    in-order t (c .chain-free .ensures .each) (freeCount t h) 1 (omega arith) (omega arith) (omega arith) in
     record {
       whole = record {
         fits = omega (arith, size, none);

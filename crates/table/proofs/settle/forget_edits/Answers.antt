@@ -3,7 +3,8 @@ use Rattle.table.proofs.Settling as settling
 use Rattle.table.proofs.settle.forget_edits.Needs as need
 
 pub loop-k-holds : need.loop-k-holds
-loop-k-holds c = settling.settle-start (c .args .table .now) (c .args .head .now) _ (omega arith) (c .pre .whole)
+loop-k-holds c =
+    settling.settle-start (c .args .table .now) (c .args .head .now) _ (omega arith) (c .pre .whole)
 
 pub renumber-here-requires : need.renumber-here-requires
 renumber-here-requires c κs =
@@ -17,4 +18,5 @@ loop-k-again c =
     (c .renumber-here .ensures .table) (c .renumber-here .ensures .next) (omega arith)
 
 pub returns : need.returns
-returns c = settling.settle-end (c .args .table .now) (c .args .head .now) _ _ _ (c .loop-k .inv) (omega arith)
+returns c =
+    settling.settle-end (c .args .table .now) (c .args .head .now) _ _ _ (c .loop-k .inv) (omega arith)

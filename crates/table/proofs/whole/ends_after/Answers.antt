@@ -24,6 +24,8 @@ pub loop-k-again : need.loop-k-again
 loop-k-again c =
     let i = in-both _ _ _ _ (sym (c .if-not-in-table .ensures tt)) in
     let e = in-both _ _ _ _ (sym (c .if-not-in-range .ensures tt)) in (
-      (λ w. c .loop-k .inv .0 (relink (c .args .table .now) _ _ _ _ _ (omega arith) (i .0, i .1, e .0, e .1, w))),
+      (λ w.
+          let link = relink (c .args .table .now) _ _ _ _ _ (omega arith) (i .0, i .1, e .0, e .1, w) in
+          c .loop-k .inv .0 link),
       (λ w. unlink (c .args .table .now) _ _ _ _ _ (omega arith) (c .loop-k .inv .1 w) .4),
     )

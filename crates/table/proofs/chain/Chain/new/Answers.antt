@@ -1,7 +1,8 @@
 use Rattle.table.proofs.Positions.{index-inside}
 use Rattle.table.proofs.chain.Chain.new.Needs as need
 
-pub from-requires : need.from-requires
-from-requires c κs =
+pub begin-requires : need.begin-requires
+begin-requires c κs =
     let head = c .args .head .now in
-    index-inside (c .args .table .now) 0 (head .newest) (head .count) (head .first) (c .in-Ok .ensures tt .whole .line)
+    index-inside (c .args .table .now) 0 (head .newest) (head .count) (head .first)
+    (c .in-Ok .ensures tt .whole .line)

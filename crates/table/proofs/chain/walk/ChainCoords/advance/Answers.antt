@@ -29,4 +29,5 @@ returns-else-self c =
     let n = length (lineFrom (line .table .now) (line .count) (line .first)) in
     let l = length-line (line .table .now) (line .count) (line .first) in
     let past : n ≤ line .at = omega (arith, l, c .if-self .left) in
-    record { same = refl; next = sym (cond-false (ltb (line .at) n) (line .at + 1) (line .at) (le-ltb (line .at) n past)) }
+    let stays = cond-false (ltb (line .at) n) (line .at + 1) (line .at) (le-ltb (line .at) n past) in
+    record { same = refl; next = sym stays }

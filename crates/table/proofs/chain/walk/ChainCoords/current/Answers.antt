@@ -1,7 +1,6 @@
 use mathlib.Core.Path.{sym, ap, _∙_}
 use Rattle.std.specs.declared.option.Option.the-variants.{Some}
-use Rattle.table.specs.Chains.{at}
-use Rattle.table.specs.Lines.{pointIn}
+use Rattle.table.specs.Chains.{at, pointIn}
 use Rattle.table.proofs.Positions.{nth-line, nth-line-past}
 use Rattle.table.proofs.chain.walk.ChainCoords.current.Needs as need
 
@@ -9,7 +8,7 @@ pub returns-then-self : need.returns-then-self
 returns-then-self c =
     let line = c .args .self .now in
     let t = line .table .now in
-    ap (λ p. Some p) (c .point-at .ensures ∙ ap (λ i. pointIn (at t i)) (line .stands))
+    ap (λ p. Some p) (c .point .ensures ∙ ap pointIn (c .record-at .ensures ∙ ap (at t) (line .stands)))
     ∙ sym (nth-line t (line .count) (line .first) (line .at) (c .if-self .taken))
 
 pub returns-else-self : need.returns-else-self

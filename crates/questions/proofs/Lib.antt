@@ -1,0 +1,4 @@
+pub mod Counting
+pub mod Parting
+pub mod Held
+pub mod Unasked
