@@ -1,6 +1,6 @@
 -- What the rules imply: the head tells where its chains begin, no chain meets an index twice, the two chains
 -- share none, and coordinates do not matter.
-use mathlib.Core.Path.{_≡_, refl, subst, sym, ap}
+use mathlib.Core.Path.{_≡_, subst, sym, ap}
 use mathlib.Core.List.{List, [], _∷_}
 use Prim.Native.Nat.{ℕ, zero, suc, _≤_}
 use lib.ListN.{length}
@@ -45,7 +45,7 @@ module _ (t : List Record) where
       let off = seg-apart t IsFree i j ds 0 q v (λ h. omega (arith, low)) in
       (subst (λ k. Off k ds) (p .0) off, apart (at t i .next) cs (p .4) (w .1) j ds q v)
 
-  first-index : (i : ℕ) (cs : List Node) → Seg t i cs 0 → i ≡ firstIndex cs
+  pub first-index : (i : ℕ) (cs : List Node) → Seg t i cs 0 → i ≡ firstIndex cs
   first-index i [] p = p
   first-index i (c ∷ cs) p = p .0
 

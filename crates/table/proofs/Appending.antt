@@ -12,7 +12,7 @@ use Rattle.table.specs.Append.{newNodes, lastIndex, Appended, HasRoom}
 use Rattle.table.specs.Chains.{Node, heldIn}
 use Rattle.table.specs.Links.{filled, insertedTable, insertedHead, newestHead}
 use Rattle.table.specs.Numbers.{lastEdit}
-use Rattle.table.specs.Outcomes.{Kept}
+use Rattle.table.specs.Outcomes.{Frame}
 use Rattle.table.specs.Whole.{Whole, lineOf, freeOf}
 use Rattle.table.proofs.Segments.{AllHeld, node, node-same, all-join, all-map, length-nodes}
 use Rattle.table.proofs.Places.{Place, Ended, before-inside}
@@ -35,7 +35,7 @@ module _ (t0 : List Record) (h0 : Head) (ps0 : List Point) where
   pub record Append (t : List Record) (h : Head) (before : ℕ) (ps : List Point) (a f : List Node)
       : Type 0 where
     pub place : Place t (h .first) (h .free) before 0 a [] f
-    pub kept : Kept t0 t
+    pub kept : Frame t0 t
     pub count-is : h .count ≡ length a
     pub total : length a + length f + 1 ≡ length t
     pub room : length ps ≤ length f
@@ -135,7 +135,7 @@ module _ (t0 : List Record) (h0 : Head) (ps0 : List Point) where
         (v .top) (v .count-is) (v .total) in
         record {
           whole = laid .whole;
-          kept = v .kept;
+          frame = v .kept;
           line = laid .line-is ∙ (sym (append-nil a) ∙ v .line);
           free = laid .free-is ∙ v .rest;
           newest = refl;

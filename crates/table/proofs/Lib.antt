@@ -3,6 +3,7 @@ pub mod Places
 pub mod Moves
 pub mod Ends
 pub mod Apart
+pub mod Exact
 pub mod Zeroth
 pub mod Steps
 pub mod Appending

@@ -9,7 +9,7 @@ use lib.Dec.{eqb}
 use borrow.Author.Tests.{ne-eqb}
 use native.Mathlib.Omega.{arith}
 use Rattle.table.specs.declared.Record.{Record}
-use Rattle.table.specs.Chains.{at, Node, Held, heldIn}
+use Rattle.table.specs.Chains.{at, Node, Held}
 use Rattle.table.specs.Links.{linked, linkTable, linkFirst}
 use Rattle.table.specs.Numbers.{freeNumber, lastEdit}
 use Rattle.table.proofs.Segments as seg

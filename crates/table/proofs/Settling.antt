@@ -8,7 +8,7 @@ use Rattle.table.specs.declared.Record.{Record}
 use Rattle.table.specs.declared.Head.{Head}
 use Rattle.table.specs.Chains.{at, Node, heldIn}
 use Rattle.table.specs.Links.{numbered, newestHead}
-use Rattle.table.specs.Outcomes.{Kept}
+use Rattle.table.specs.Outcomes.{Frame}
 use Rattle.table.specs.Settle.{settled, Settled}
 use Rattle.table.specs.Whole.{Whole, lineOf, freeOf}
 use Rattle.table.proofs.Segments.{AllHeld, node, node-same, all-join, length-nodes}
@@ -21,7 +21,7 @@ module _ (t0 : List Record) (h : Head) where
   -- a is settled, b is still to come
   pub record Settle (t : List Record) (before here left : ℕ) (a b : List Node) : Type 0 where
     pub place : Place t (h .first) (h .free) before here a b (freeOf t0 h)
-    pub kept : Kept t0 t
+    pub kept : Frame t0 t
     pub left-is : length b ≡ left
     pub count-is : h .count ≡ length a + length b
     pub total : length a + length b + length (freeOf t0 h) + 1 ≡ length t
@@ -88,7 +88,7 @@ module _ (t0 : List Record) (h : Head) where
         (omega (arith, u .count-is)) (omega (arith, u .total)) in
         record {
           whole = laid .whole;
-          kept = u .kept;
+          frame = u .kept;
           line = laid .line-is ∙ (sym (append-nil a) ∙ u .line);
           free = laid .free-is;
           newest = refl;

@@ -3,7 +3,7 @@ use mathlib.Core.Path.{_≡_, refl, subst, sym, ap, _∙_}
 use mathlib.Core.List.{List, [], _∷_, _++_, append-assoc, append-nil}
 use mathlib.Core.Logic.{_≢_}
 use mathlib.Core.Bool.{true, false, cond}
-use Prim.Native.Nat.{ℕ, _+_, _-_, _<_, _≤_}
+use Prim.Native.Nat.{ℕ, _+_, _-_, _<_}
 use lib.Dec.{ltb}
 use lib.ListN.{length, length-append}
 use borrow.Author.Tests.{lt-ltb, le-ltb}
@@ -12,7 +12,7 @@ use Rattle.table.specs.declared.Record.{Record}
 use Rattle.table.specs.declared.Head.{Head}
 use Rattle.table.specs.Chains.{at, Node, Held, heldIn}
 use Rattle.table.specs.Links.{freed, releasedTable, releasedHead, newestHead}
-use Rattle.table.specs.Outcomes.{Kept}
+use Rattle.table.specs.Outcomes.{Frame}
 use Rattle.table.specs.Undo.{nodesBefore, freedSince, Undone}
 use Rattle.table.specs.Whole.{Whole, lineOf, freeOf}
 use Rattle.table.proofs.Segments.{AllHeld, node, node-same, all-join, all-map, length-nodes}
@@ -28,7 +28,7 @@ module _ (t0 : List Record) (h0 : Head) where
   -- a is kept, b is still to come, f is free
   pub record Undo (t : List Record) (h : Head) (before here left : ℕ) (a b f : List Node) : Type 0 where
     pub place : Place t (h .first) (h .free) before here a b f
-    pub kept : Kept t0 t
+    pub kept : Frame t0 t
     pub left-is : length b ≡ left
     pub count-is : h .count ≡ length a + length b
     pub total : length a + length b + length f + 1 ≡ length t
@@ -142,7 +142,7 @@ module _ (t0 : List Record) (h0 : Head) where
         (omega (arith, u .count-is)) (omega (arith, u .total)) in
         record {
           whole = laid .whole;
-          kept = u .kept;
+          frame = u .kept;
           line = laid .line-is ∙ (sym (append-nil a) ∙ u .line);
           free = laid .free-is ∙ u .gone;
           newest = refl;

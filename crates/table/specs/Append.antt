@@ -15,7 +15,7 @@ use Rattle.table.specs.declared.Record.{Record}
 use Rattle.table.specs.declared.Head.{Head}
 use Rattle.table.specs.Chains.{Node}
 use Rattle.table.specs.Numbers.{lastEdit}
-use Rattle.table.specs.Outcomes.{Unchanged, Kept}
+use Rattle.table.specs.Outcomes.{Unchanged, Frame}
 use Rattle.table.specs.Whole.{Checked, Whole, BadTable, lineOf, freeOf, freeCount}
 
 -- the index of the last record of a chain, or d where there is none
@@ -34,7 +34,7 @@ newNodes e (n ∷ f) (p ∷ ps) =
 pub record Appended (t : List Record) (h : Head) (ps : List Point) (t' : List Record) (h' : Head)
     : Type 0 where
   pub whole : Whole t' h'
-  pub kept : Kept t t'
+  pub frame : Frame t t'
   pub line : lineOf t' h' ≡ lineOf t h ++ newNodes (h .newest + 1) (freeOf t h) ps
   pub free : freeOf t' h' ≡ drop (length ps) (freeOf t h)
   pub newest : h' .newest ≡ h .newest + 1

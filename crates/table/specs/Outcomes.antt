@@ -27,7 +27,7 @@ pub record Unchanged (t : List Record) (h : Head) (t' : List Record) (h' : Head)
   pub table : t' ≡ t
   pub head : h' ≡ h
 
--- an edit keeps the table's length and record 0
-pub record Kept (t t' : List Record) : Type 0 where
+-- what every edit keeps: the table's length and record 0
+pub record Frame (t t' : List Record) : Type 0 where
   pub size : length t' ≡ length t
   pub zeroth : at t' 0 ≡ at t 0

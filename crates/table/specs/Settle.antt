@@ -5,7 +5,7 @@ use Rattle.points.specs.declared.fault.Fault.{Fault}
 use Rattle.table.specs.declared.Record.{Record}
 use Rattle.table.specs.declared.Head.{Head}
 use Rattle.table.specs.Chains.{Node}
-use Rattle.table.specs.Outcomes.{Unchanged, Kept}
+use Rattle.table.specs.Outcomes.{Unchanged, Frame}
 use Rattle.table.specs.Whole.{Checked, Whole, BadTable, lineOf, freeOf}
 
 -- a record with edit number 0
@@ -15,7 +15,7 @@ settled n = record { index = n .index; held = record { point = n .held .point; e
 -- every record of the line has edit number 0
 pub record Settled (t : List Record) (h : Head) (t' : List Record) (h' : Head) : Type 0 where
   pub whole : Whole t' h'
-  pub kept : Kept t t'
+  pub frame : Frame t t'
   pub line : lineOf t' h' ≡ map settled (lineOf t h)
   pub free : freeOf t' h' ≡ freeOf t h
   pub newest : h' .newest ≡ 0

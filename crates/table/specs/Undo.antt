@@ -13,7 +13,7 @@ use Rattle.table.specs.declared.Record.{Record}
 use Rattle.table.specs.declared.Head.{Head}
 use Rattle.table.specs.Chains.{Node, heldIn}
 use Rattle.table.specs.Links.{freed}
-use Rattle.table.specs.Outcomes.{Unchanged, Kept}
+use Rattle.table.specs.Outcomes.{Unchanged, Frame}
 use Rattle.table.specs.Whole.{Checked, Whole, BadTable, lineOf, freeOf}
 
 -- the records put there before edit e
@@ -31,7 +31,7 @@ freedSince e (n ∷ ns) f =
 -- the newest edit's records are free now, and all others keep their order
 pub record Undone (t : List Record) (h : Head) (t' : List Record) (h' : Head) : Type 0 where
   pub whole : Whole t' h'
-  pub kept : Kept t t'
+  pub frame : Frame t t'
   pub line : lineOf t' h' ≡ nodesBefore (h .newest) (lineOf t h)
   pub free : freeOf t' h' ≡ freedSince (h .newest) (lineOf t h) (freeOf t h)
   pub newest : h' .newest ≡ h .newest - 1

@@ -20,7 +20,8 @@ loop-i-again c =
 pub returns-then-not-is-finite : need.returns-then-not-is-finite
 returns-then-not-is-finite c =
     let unfit = sym (c .if-not-is-finite .ensures tt) in
-    let here = sym (unfit-here (c .args .points .now) (c .loop-i .i) none (omega arith) unfit) ∙ c .loop-i .inv in
+    let here =
+    sym (unfit-here (c .args .points .now) (c .loop-i .i) none (omega arith) unfit) ∙ c .loop-i .inv in
     let fault = c .at .ensures ∙ ap (placed (c .loop-i .i + 1)) (c .new .ensures) in
     record { cause = omega (arith, here); fault = fault ∙ ap (λ n. placed n (raised NotFinite Table)) here }
 

@@ -1,11 +1,10 @@
 use native.Mathlib.Omega.{arith}
-use mathlib.Core.Path.{_≡_, _∙_, ap, subst, sym}
-use Prim.Native.Nat.{_-_, _<_}
-use lib.ListN.{length, length-set}
+use mathlib.Core.Path.{_≡_, _∙_, ap}
+use Prim.Native.Nat.{_<_}
+use lib.ListN.{length}
 use lib.Seq.{getD-set-same}
-use Rattle.table.specs.Chains.{Chained, at, blank}
+use Rattle.table.specs.Chains.{at, blank}
 use Rattle.table.specs.Format.{cleared}
-use Rattle.table.specs.Numbers.{freeNumber}
 use Rattle.table.specs.Whole.{freeCount}
 use Rattle.table.proofs.Orders.{in-order}
 use Rattle.table.proofs.format.lay_out.Needs as need

@@ -1,5 +1,5 @@
 use native.Mathlib.Omega.{arith}
-use mathlib.Core.Path.{ap, _∙_, sym, refl}
+use mathlib.Core.Path.{ap, _∙_, sym}
 use borrow.Author.Tests.{eqb-true, eqb-false}
 use Rattle.table.proofs.Undoing as undoing
 use Rattle.table.proofs.undo.take_back.Needs as need
