@@ -3,15 +3,14 @@ use mathlib.Core.Path.{_≡_, refl, sym, ap, _∙_}
 use mathlib.Core.List.{List, [], _∷_, _++_, append-assoc, append-nil}
 use Prim.Native.Nat.{ℕ, suc, _+_, _-_, _*_, _^_, _<_}
 use native.Mathlib.Omega.{arith}
-use lib.Chars.{codes}
-use lib.ListN.{length, getD, take, drop, length-append}
+use lib.ListN.{length, take, drop, length-append}
 use lib.Ieee.{Float}
-use Rattle.std.proofs.shelf.Lists.{drop-at, getD-append-left, append-cancel-left, length-map}
+use Rattle.std.proofs.shelf.Lists.{drop-at, append-cancel-left, length-map}
 use Rattle.text.specs.Hex.{hexText}
 use Rattle.text.specs.Grammar.{spaced, Parted}
 use Rattle.text.specs.Lines.{part}
 use Rattle.text.proofs.HexLaws.{length-hexText}
-use Rattle.questions.specs.Spelling.{numbersText, AllSized, floats, Words}
+use Rattle.questions.specs.Spelling.{numbersText, AllSized, Words}
 
 pub length-numbers : (ns : List ℕ) → length (numbersText ns) ≡ 17 * length ns
 length-numbers [] = refl
@@ -44,11 +43,11 @@ NoneAt r = (n : ℕ) → n < 2 ^ 64 → (rest : List ℕ) → Parted rest → r 
 pub plain-nil : Plain []
 plain-nil n rest e = let z = ap length e in omega arith
 
-parted-numbers : (ns s : List ℕ) → Parted s → Parted (numbersText ns ++ s)
+pub parted-numbers : (ns s : List ℕ) → Parted s → Parted (numbersText ns ++ s)
 parted-numbers [] s p = p
 parted-numbers (n ∷ ns) s p = refl
 
-after-first : (m n : ℕ) (xs ys : List ℕ) → spaced m ++ xs ≡ spaced n ++ ys → xs ≡ ys
+pub after-first : (m n : ℕ) (xs ys : List ℕ) → spaced m ++ xs ≡ spaced n ++ ys → xs ≡ ys
 after-first m n xs ys e =
     let at-m = drop-at (spaced m) xs 17 (omega (arith, length-hexText 16 m)) in
     let at-n = drop-at (spaced n) ys 17 (omega (arith, length-hexText 16 n)) in

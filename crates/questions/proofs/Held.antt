@@ -1,11 +1,11 @@
 -- What was read, by whether it is there; and lists by their items.
 use mathlib.Core.Path.{_≡_, refl, sym, ap, subst, _∙_}
 use mathlib.Core.List.{List, [], _∷_, _++_, append-assoc}
-use Prim.Native.Nat.{ℕ, suc, _+_, _*_, _<_}
+use Prim.Native.Nat.{ℕ, _+_, _*_, _<_}
 use native.Mathlib.Omega.{arith}
 use lib.Ieee.{Float, nan}
 use lib.ListN.{length, getD, take, drop}
-use Rattle.std.proofs.shelf.Lists.{take-more, drop-more}
+use Rattle.std.proofs.shelf.Lists.{take-more, drop-more, drop-all}
 use Rattle.std.specs.Options.{Cases}
 use Rattle.std.specs.Of.Vec.{vec-items}
 use Rattle.std.specs.Vec.{made}
@@ -31,9 +31,49 @@ module _ {X Y : Type 0} (bytes : List ℕ) (from to : ℕ) (held : X → Y) (spe
       Inside bytes from to × spells (part bytes from to) (held x)
   reads-some o x e r = subst (λ (a : Option X). Reads bytes from to held spells a) e r
 
-pub peel : {A : Type 0} (xs : List A) (i : ℕ) (a : A) → i < length xs → a ≡ getD xs i a →
+peel : {A : Type 0} (xs : List A) (i : ℕ) (a : A) → i < length xs → a ≡ getD xs i a →
     drop i xs ≡ a ∷ drop (i + 1) xs
 peel xs i a h e = drop-more xs i a h ∙ ap (λ b. b ∷ drop (i + 1) xs) (sym e)
+
+pub one-item : {A : Type 0} (xs : List A) (a : A) → length xs ≡ 1 →
+    a ≡ getD xs 0 a →
+    xs ≡ a ∷ []
+one-item xs a n e0 =
+    let p0 = peel xs 0 a (omega arith) e0 in
+    let none = drop-all 1 xs (omega arith) in
+    cc
+
+pub two-items : {A : Type 0} (xs : List A) (a b : A) → length xs ≡ 2 →
+    a ≡ getD xs 0 a → b ≡ getD xs 1 b →
+    xs ≡ a ∷ (b ∷ [])
+two-items xs a b n e0 e1 =
+    let p0 = peel xs 0 a (omega arith) e0 in
+    let p1 = peel xs 1 b (omega arith) e1 in
+    let none = drop-all 2 xs (omega arith) in
+    cc
+
+pub four-items : {A : Type 0} (xs : List A) (a b c d : A) → length xs ≡ 4 →
+    a ≡ getD xs 0 a → b ≡ getD xs 1 b → c ≡ getD xs 2 c → d ≡ getD xs 3 d →
+    xs ≡ a ∷ (b ∷ (c ∷ (d ∷ [])))
+four-items xs a b c d n e0 e1 e2 e3 =
+    let p0 = peel xs 0 a (omega arith) e0 in
+    let p1 = peel xs 1 b (omega arith) e1 in
+    let p2 = peel xs 2 c (omega arith) e2 in
+    let p3 = peel xs 3 d (omega arith) e3 in
+    let none = drop-all 4 xs (omega arith) in
+    cc
+
+pub five-items : {A : Type 0} (xs : List A) (a b c d e : A) → length xs ≡ 5 →
+    a ≡ getD xs 0 a → b ≡ getD xs 1 b → c ≡ getD xs 2 c → d ≡ getD xs 3 d → e ≡ getD xs 4 e →
+    xs ≡ a ∷ (b ∷ (c ∷ (d ∷ (e ∷ []))))
+five-items xs a b c d e n e0 e1 e2 e3 e4 =
+    let p0 = peel xs 0 a (omega arith) e0 in
+    let p1 = peel xs 1 b (omega arith) e1 in
+    let p2 = peel xs 2 c (omega arith) e2 in
+    let p3 = peel xs 3 d (omega arith) e3 in
+    let p4 = peel xs 4 e (omega arith) e4 in
+    let none = drop-all 5 xs (omega arith) in
+    cc
 
 pub length-coordinates : (ps : List Point) → length (coordinates ps) ≡ 2 * length ps
 length-coordinates [] = refl

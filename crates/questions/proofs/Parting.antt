@@ -1,6 +1,6 @@
 -- The slash between two runs of numbers.
 use mathlib.Core.Path.{_≡_, refl, sym, ap, subst, _∙_}
-use mathlib.Core.List.{List, [], _∷_, _++_}
+use mathlib.Core.List.{List}
 use mathlib.Core.Logic.{⊎-elim}
 use Prim.Native.Nat.{ℕ, _+_, _<_, _≤_}
 use native.Mathlib.Omega.{arith}
@@ -13,7 +13,7 @@ use Rattle.std.proofs.str.Laws.{order}
 use Rattle.text.specs.Hex.{hexChar, hexText}
 use Rattle.text.specs.Grammar.{Parted}
 use Rattle.text.proofs.HexLaws.{length-hexText, hex-at}
-use Rattle.questions.specs.Spelling.{numbersText, Words, TwoWords}
+use Rattle.questions.specs.Spelling.{Words, TwoWords}
 use Rattle.questions.proofs.Counting.{Plain, NoneAt, same-count, words-count}
 
 -- no capital is a slash (byte 47)
@@ -37,7 +37,8 @@ slash-plain rest ys w n more e =
 
 -- two readings of two lines have as many numbers in each
 pub two-words-count : (line name : List ℕ) (xs ys xs′ ys′ : List Float) →
-    TwoWords line name xs ys → TwoWords line name xs′ ys′ → (length xs ≡ length xs′) × (length ys ≡ length ys′)
+    TwoWords line name xs ys → TwoWords line name xs′ ys′ →
+    (length xs ≡ length xs′) × (length ys ≡ length ys′)
 two-words-count line name xs ys xs′ ys′ a b =
     let plain = slash-plain (b .rest) ys′ (b .second) in
     let none : NoneAt (b .rest) = λ n _ more _ e. plain n more e in

@@ -1,7 +1,6 @@
 -- Defines the answer to each question, and the bytes that are printed for a line.
 use mathlib.Core.Path.{_≡_}
 use mathlib.Core.List.{List, _++_}
-use mathlib.Core.Logic.{_⊎_}
 use Prim.Native.Nat.{ℕ, _*_, min}
 use lib.Chars.{codes}
 use lib.Ieee.{Float, binary64, toBits}
@@ -11,7 +10,6 @@ use Rattle.std.specs.declared.option.Option.{Option}
 use Rattle.std.specs.declared.result.Result.{Result}
 use Rattle.std.specs.declared.result.Result.the-variants.{Ok, Err}
 use Rattle.text.specs.Hex.{hexText}
-use Rattle.text.specs.Grammar.{spaced}
 use Rattle.text.specs.Lines.{Inside, part}
 use Rattle.points.specs.Faults.{numberOf}
 use Rattle.points.specs.Rounded.{zero64}
@@ -27,26 +25,26 @@ use Rattle.questions.specs.Asked as asks
 use Rattle.questions.specs.Asked.{Asked}
 use Rattle.questions.specs.Spelling.{Spells, Unspelled}
 use Rattle.questions.specs.declared.ask.Answer.{Answer}
-use Rattle.questions.specs.declared.ask.Answer.the-variants.{Number, At, NoAnswer, Refused}
+use Rattle.questions.specs.declared.ask.Answer.the-variants as answers
 
 -- a host that has no answer says so
 abbrev pub heard : Result Float Fault → Answer
-heard (Ok x) = Number x
-heard (Err f) = NoAnswer
+heard (Ok x) = answers.Number x
+heard (Err f) = answers.NoAnswer
 
 -- a refusal is told by the number of its cause
 abbrev pub measured : Result Float Fault → Answer
-measured (Ok x) = Number x
-measured (Err f) = Refused (numberOf (f .cause))
+measured (Ok x) = answers.Number x
+measured (Err f) = answers.Refused (numberOf (f .cause))
 
 abbrev pub landed : Result places.Point Fault → Answer
-landed (Ok p) = At p
-landed (Err f) = Refused (numberOf (f .cause))
+landed (Ok p) = answers.Point p
+landed (Err f) = answers.Refused (numberOf (f .cause))
 
--- how far two points are apart, in the plane over the series host
 abbrev pub hypot : Float → Float → Option Float
 hypot = seriesAnswer functions.Hypot
 
+-- how far two points are apart in the Euclidean plane over the series host
 abbrev pub far : places.Point → places.Point → Result Float Fault
 far = Plane.distance hypot
 
@@ -75,14 +73,19 @@ abbrev pub pointText : places.Point → List ℕ
 pointText p = numberText (p .x) ++ (codes " " ++ numberText (p .y))
 
 abbrev pub printed : Answer → List ℕ
-printed (Number x) = numberText x
-printed (At p) = pointText p
-printed NoAnswer = codes "none"
-printed (Refused n) = codes "refused " ++ decimal n
+printed (answers.Number x) = numberText x
+printed (answers.Point p) = pointText p
+printed answers.NoAnswer = codes "none"
+printed (answers.Refused n) = codes "refused " ++ decimal n
 
--- what is printed for the line from `from` up to `to`: the answer to the question that it spells, or the refusal of a
--- line that spells none
-abbrev pub Answered : List ℕ → ℕ → ℕ → List ℕ → Type 0
-Answered bytes from to out =
-    ((Inside bytes from to → Unspelled (part bytes from to)) × (out ≡ codes "refused 14"))
-    ⊎ ((q : Asked) × Inside bytes from to × Spells (part bytes from to) q × (out ≡ printed (answerTo q)))
+-- what is printed for a line that spells no question
+abbrev pub malformedText : List ℕ
+malformedText = codes "refused 14"
+
+-- what is printed for the line from `from` up to `to`
+pub record Answered (bytes : List ℕ) (from to : ℕ) (out : List ℕ) : Type 0 where
+  -- where it spells a question, the answer to that
+  pub asked : (q : Asked) → Inside bytes from to → Spells (part bytes from to) q →
+      out ≡ printed (answerTo q)
+  -- where it spells none, a refusal
+  pub malformed : (Inside bytes from to → Unspelled (part bytes from to)) → out ≡ malformedText

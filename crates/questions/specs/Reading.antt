@@ -8,7 +8,8 @@ use Rattle.std.specs.declared.option.Option.{Option}
 use Rattle.text.specs.Grammar.{NoNumber}
 use Rattle.text.specs.Lines.{Inside, part}
 use Rattle.points.specs.declared.point.Point.{Point}
-use Rattle.questions.specs.Asked.{asked, Sqrt, Hypot, Sin, Cos, Asin, Atan2, Distance, Ratio, Along, Length, Frechet}
+use Rattle.questions.specs.Asked.{asked, Sqrt, Hypot, Sin, Cos, Asin, Atan2}
+use Rattle.questions.specs.Asked.{Distance, Ratio, Along, Length, Frechet}
 use Rattle.questions.specs.Spelling.{numbersText, AllSized, floats, Spells}
 use Rattle.questions.specs.declared.question.Question.{Question}
 
@@ -27,8 +28,10 @@ pub record NumbersAt (bytes : List ℕ) (from to : ℕ) (xs : List Float) (stop 
   pub after : Inside bytes from to → Inside bytes stop to
   pub none : Inside bytes from to → NoNumber bytes stop to
 
--- what is read of the line from `from` up to `to` is held, and the line spells it; or the line spells nothing of the kind
-abbrev pub Reads : {X Y : Type 0} → List ℕ → ℕ → ℕ → (X → Y) → (List ℕ → Y → Type 0) → Option X → Type 0
+-- what was read of the line from `from` up to `to` is held, and the line spells it; or nothing was read, and the
+-- line spells nothing of the kind
+abbrev pub Reads : {X Y : Type 0} →
+    List ℕ → ℕ → ℕ → (X → Y) → (List ℕ → Y → Type 0) → Option X → Type 0
 Reads {Y = Y} bytes from to held spells o =
     Cases o (Inside bytes from to → (y : Y) → spells (part bytes from to) y → ⊥)
     (λ x. Inside bytes from to × spells (part bytes from to) (held x))

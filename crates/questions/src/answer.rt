@@ -1,6 +1,7 @@
 // The printed line that answers a line of questions.
 use crate::ask::ask;
 use crate::printed::answer_text;
+use crate::printed::malformed_text;
 use crate::reading::read_question;
 use std::alloc::AllocError;
 use std::alloc::Global;
@@ -11,10 +12,11 @@ ghost use Rattle.questions.specs.Answers.{Answered};
 
 // The answer to the question that the line spells; where it spells none, a refusal.
 pub fn answer_line(heap: Global, text: &[u8], line: Line) -> Result<String, AllocError>
-    ensures { λ r. ⌜ made r (λ s. Answered (now (text .entry)) (line .start) (line .end) (string-bytes s)) ⌝ }
+    ensures { λ r. ⌜ made r (λ s.
+        Answered (now (text .entry)) (line .start) (line .end) (string-bytes s)) ⌝ }
 {
     match read_question(heap, text, line)? {
         Some(question) => answer_text(heap, ask(heap, question)?),
-        None => String::from_str(heap, "refused 14"),
+        None => malformed_text(heap),
     }
 }

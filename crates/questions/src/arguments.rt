@@ -142,7 +142,8 @@ fn parted_numbers(
     line: Line,
     name: &[u8],
 ) -> Result<Option<(Vec<f64>, Vec<f64>)>, AllocError>
-    ensures { λ r. ⌜ made r (Reads {Y = List Float × List Float} (now (text .entry)) (line .start) (line .end)
+    ensures { λ r. ⌜ made r (Reads {Y = List Float × List Float}
+        (now (text .entry)) (line .start) (line .end)
         (λ p. (vec-items (p .0), vec-items (p .1)))
         (λ l p. TwoWords l (now (name .entry)) (p .0) (p .1))) ⌝ }
 {
@@ -163,7 +164,8 @@ pub(crate) fn two_lines(
     line: Line,
     name: &[u8],
 ) -> Result<Option<(Vec<Point>, Vec<Point>)>, AllocError>
-    ensures { λ r. ⌜ made r (Reads {Y = List Place.Point × List Place.Point} (now (text .entry)) (line .start) (line .end)
+    ensures { λ r. ⌜ made r (Reads {Y = List Place.Point × List Place.Point}
+        (now (text .entry)) (line .start) (line .end)
         (λ p. (vec-items (p .0), vec-items (p .1)))
         (λ l p. TwoWords l (now (name .entry)) (coordinates (p .0)) (coordinates (p .1)))) ⌝ }
 {

@@ -15,7 +15,6 @@ use spaces::space::Space;
 use std::alloc::AllocError;
 use std::alloc::Global;
 ghost use mathlib.Core.Path.{_≡_};
-ghost use Rattle.std.specs.Of.Vec.{vec-items};
 ghost use Rattle.std.specs.Vec.{made};
 ghost use Rattle.measures.specs.Length.{lengthOf};
 ghost use Rattle.frechet.specs.Table.{frechet as frechetOf};
@@ -25,7 +24,7 @@ ghost use Rattle.questions.specs.Answers.{heard, measured, landed, far, cellsF
 #[derive(Clone, Copy)]
 pub enum Answer {
     Number(f64),
-    At(Point),
+    Point(Point),
     NoAnswer,
     Refused(u8),
 }
@@ -52,7 +51,7 @@ fn landed_of(result: Result<Point, Fault>) -> Answer
     ensures { λ r. ⌜ r ≡ landed result ⌝ }
 {
     match result {
-        Ok(p) => Answer::At(p),
+        Ok(p) => Answer::Point(p),
         Err(fault) => Answer::Refused(fault.cause.number()),
     }
 }

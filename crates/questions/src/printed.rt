@@ -8,7 +8,7 @@ use text::hex::bits_text;
 ghost use mathlib.Core.Path.{_≡_};
 ghost use Rattle.std.specs.Of.String.{string-bytes};
 ghost use Rattle.std.specs.Vec.{made};
-ghost use Rattle.questions.specs.Answers.{numberText, pointText, printed};
+ghost use Rattle.questions.specs.Answers.{numberText, pointText, printed, malformedText};
 
 // The bits of a number as 16 hexadecimal capitals.
 fn number_text(heap: Global, x: f64) -> Result<String, AllocError>
@@ -31,12 +31,19 @@ fn point_text(heap: Global, p: Point) -> Result<String, AllocError>
     format!(heap, "{x} {y}")
 }
 
+// What is printed for a line that spells no question.
+pub(crate) fn malformed_text(heap: Global) -> Result<String, AllocError>
+    ensures { λ r. ⌜ made r (λ s. string-bytes s ≡ malformedText) ⌝ }
+{
+    String::from_str(heap, "refused 14")
+}
+
 pub(crate) fn answer_text(heap: Global, answer: Answer) -> Result<String, AllocError>
     ensures { λ r. ⌜ made r (λ s. string-bytes s ≡ printed answer) ⌝ }
 {
     match answer {
         Answer::Number(x) => number_text(heap, x),
-        Answer::At(p) => point_text(heap, p),
+        Answer::Point(p) => point_text(heap, p),
         Answer::NoAnswer => String::from_str(heap, "none"),
         Answer::Refused(number) => format!(heap, "refused {number}"),
     }

@@ -9,7 +9,8 @@ use Rattle.questions.proofs.arguments.exactly.Needs as need
 pub returns-in-rest : need.returns-in-rest
 returns-in-rest c inside xs w =
     reads-none (c .args .text .now) (c .args .line .start) (c .args .line .end) vec-items
-    (λ l ys. Words l (c .args .name .now) ys) _ (c .in-rest .is) (c .in-Continue-v .ensures tt) inside xs (w .1)
+    (λ l ys. Words l (c .args .name .now) ys) _ (c .in-rest .is) (c .in-Continue-v .ensures tt) inside xs
+    (w .1)
 
 pub returns-else-len-count : need.returns-else-len-count
 returns-else-len-count c inside xs w =

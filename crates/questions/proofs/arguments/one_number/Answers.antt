@@ -1,13 +1,11 @@
 use mathlib.Core.Path.{_≡_, refl, subst}
 use mathlib.Core.List.{List, [], _∷_}
-use native.Mathlib.Omega.{arith}
 use lib.Ieee.{Float}
 use lib.ListN.{length}
-use Rattle.std.proofs.shelf.Lists.{drop-all}
 use Rattle.std.specs.Of.Vec.{vec-items}
 use Rattle.text.specs.Lines.{part}
 use Rattle.questions.specs.Spelling.{Words}
-use Rattle.questions.proofs.Held.{reads-none, reads-some, peel}
+use Rattle.questions.proofs.Held.{reads-none, reads-some, one-item}
 use Rattle.questions.proofs.arguments.one_number.Needs as need
 
 pub returns-in-rest : need.returns-in-rest
@@ -25,8 +23,7 @@ returns c =
     let read =
     reads-some text start end vec-items (λ l ys. (length ys ≡ 1) × Words l name ys) _ (c .in-Some .v)
     (c .in-Some .is) (c .in-Continue-v .ensures tt) in
-    let p0 = peel (vec-items (c .in-Some .v)) 0 (c .index .result .now) (omega (arith, read .1 .0)) (c .index .ensures) in
-    let none = drop-all 1 (vec-items (c .in-Some .v)) (omega (arith, read .1 .0)) in
-    let all : vec-items (c .in-Some .v) ≡ c .index .result .now ∷ [] =
-    cc in
+    let all =
+    one-item (vec-items (c .in-Some .v)) _ (read .1 .0)
+    (c .index .ensures) in
     (read .0, subst (λ (l : List Float). Words (part text start end) name l) all (read .1 .1))

@@ -1,13 +1,11 @@
 use mathlib.Core.Path.{_≡_, refl, subst}
 use mathlib.Core.List.{List, [], _∷_}
-use native.Mathlib.Omega.{arith}
 use lib.Ieee.{Float}
 use lib.ListN.{length}
-use Rattle.std.proofs.shelf.Lists.{drop-all}
 use Rattle.std.specs.Of.Vec.{vec-items}
 use Rattle.text.specs.Lines.{part}
 use Rattle.questions.specs.Spelling.{Words}
-use Rattle.questions.proofs.Held.{reads-none, reads-some, peel}
+use Rattle.questions.proofs.Held.{reads-none, reads-some, two-items}
 use Rattle.questions.proofs.arguments.two_numbers.Needs as need
 
 pub returns-in-rest : need.returns-in-rest
@@ -25,9 +23,7 @@ returns c =
     let read =
     reads-some text start end vec-items (λ l ys. (length ys ≡ 2) × Words l name ys) _ (c .in-Some .v)
     (c .in-Some .is) (c .in-Continue-v .ensures tt) in
-    let p0 = peel (vec-items (c .in-Some .v)) 0 (c .index .result .now) (omega (arith, read .1 .0)) (c .index .ensures) in
-    let p1 = peel (vec-items (c .in-Some .v)) 1 (c .index-2 .result .now) (omega (arith, read .1 .0)) (c .index-2 .ensures) in
-    let none = drop-all 2 (vec-items (c .in-Some .v)) (omega (arith, read .1 .0)) in
-    let all : vec-items (c .in-Some .v) ≡ c .index .result .now ∷ (c .index-2 .result .now ∷ []) =
-    cc in
+    let all =
+    two-items (vec-items (c .in-Some .v)) _ _ (read .1 .0)
+    (c .index .ensures) (c .index-2 .ensures) in
     (read .0, subst (λ (l : List Float). Words (part text start end) name l) all (read .1 .1))

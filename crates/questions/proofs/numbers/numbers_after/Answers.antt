@@ -1,4 +1,4 @@
-use mathlib.Core.Path.{_≡_, refl, sym, ap, subst, _∙_}
+use mathlib.Core.Path.{sym, ap, _∙_}
 use mathlib.Core.List.{[], _++_, append-nil}
 use Rattle.std.proofs.shelf.Lists.{append-cancel-left}
 use Rattle.text.specs.Lines.{part}

@@ -1,13 +1,12 @@
-use mathlib.Core.Path.{_≡_, sym, ap, _∙_}
+use mathlib.Core.Path.{sym, ap, _∙_}
 use mathlib.Core.List.{[], _∷_, _++_}
 use Prim.Native.Nat.{_+_}
-use native.Mathlib.Omega.{arith}
 use lib.Ieee.{binary64, ofBits}
 use Rattle.std.proofs.shelf.Lists.{map-append}
 use Rattle.std.specs.Of.Vec.{vec-items}
 use Rattle.text.specs.Lines.{part}
 use Rattle.text.proofs.Numbers.{after-number}
-use Rattle.questions.specs.Spelling.{numbersText, floats}
+use Rattle.questions.specs.Spelling.{numbersText}
 use Rattle.questions.proofs.Counting.{numbers-push, sized-push}
 use Rattle.questions.proofs.numbers.numbers_at.Needs as need
 

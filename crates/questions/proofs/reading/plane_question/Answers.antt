@@ -8,7 +8,8 @@ pub returns : need.returns
 returns c inside = record {
   distance = λ p q w. cases-at-none _ _ (c .in-rest .is) (c .in-Continue-p .ensures tt) inside (p, q) w;
   ratio = λ t p q w. cases-at-none _ _ (c .in-rest-2 .is) (c .in-Continue-ratio .ensures tt) inside (t, p, q) w;
-  along = λ d p q w. cases-at-none _ _ (c .in-rest-3 .is) (c .in-Continue-distance .ensures tt) inside (d, p, q) w;
+  along = λ d p q w.
+      cases-at-none _ _ (c .in-rest-3 .is) (c .in-Continue-distance .ensures tt) inside (d, p, q) w;
   length = λ ps w. cases-at-none _ _ (c .in-rest-4 .is) (c .in-Continue-points .ensures tt) inside ps w;
   frechet = λ ps qs w. cases-at-none _ _ (c .in-rest-5 .is) (c .in-Continue-ps .ensures tt) inside (ps, qs) w;
 }
