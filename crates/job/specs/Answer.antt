@@ -42,11 +42,17 @@ pub record Asked (bytes : List ℕ) (from to : ℕ) (old : Kept) (printed : List
   pub answered : Replies old command printed new
 
 -- the line spells none: its number is told, and nothing changes
-pub record Refused (bytes : List ℕ) (from to number : ℕ) (old : Kept) (printed : List ℕ) (new : Kept) : Type 0 where
-  pub unspelled : NoCommand bytes from to
+pub record Refused (number : ℕ) (old : Kept) (printed : List ℕ) (new : Kept) : Type 0 where
   pub text : printed ≡ malformedText number
   pub kept : new ≡ old
 
-abbrev pub Answered : List ℕ → ℕ → ℕ → ℕ → Kept → List ℕ → Kept → Type 0
-Answered bytes from to number old printed new =
-    Asked bytes from to old printed new ⊎ Refused bytes from to number old printed new
+-- one or the other
+abbrev pub EitherWay : List ℕ → ℕ → ℕ → ℕ → Kept → List ℕ → Kept → Type 0
+EitherWay bytes from to number old printed new =
+    Asked bytes from to old printed new ⊎ (NoCommand bytes from to × Refused number old printed new)
+
+-- whatever command the line spells is answered, and a line is refused exactly where it spells none
+pub record Answered (bytes : List ℕ) (from to number : ℕ) (old : Kept) (printed : List ℕ) (new : Kept) : Type 0 where
+  pub allowed : (q : Command) → CommandAt bytes from to q → Replies old q printed new
+  pub malformed : NoCommand bytes from to → Refused number old printed new
+  pub either : EitherWay bytes from to number old printed new

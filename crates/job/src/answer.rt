@@ -37,7 +37,7 @@ ghost use Rattle.job.specs.Reply.{
   distanceText,
   replyTo,
 };
-ghost use Rattle.job.specs.Answer.{lengthAllowed, CommandOrFault, Replies, Answered};
+ghost use Rattle.job.specs.Answer.{lengthAllowed, CommandOrFault, Replies, EitherWay, Answered};
 
 // The longest job, in bytes.
 pub const LONGEST_JOB: usize = 60_000;
@@ -168,6 +168,24 @@ impl Job {
         }
     }
 
+    fn answer_either(
+        &mut self,
+        heap: Global,
+        text: &[u8],
+        line: Line,
+        number: usize,
+    ) -> Result<String, AllocError>
+        ensures { λ r. ⌜ Cases r
+            (λ s. EitherWay (now (text .entry)) (line .start) (line .end) number (keptBy (now (self .entry)))
+            (string-bytes s) (keptBy (now (self .exit))))
+            (λ _. keptBy (now (self .exit)) ≡ keptBy (now (self .entry))) ⌝ }
+    {
+        match command_of(text, line, number) {
+            Ok(command) => self.reply(heap, command),
+            Err(fault) => malformed_line(heap, fault.place),
+        }
+    }
+
     // The printed line of the line with this number. Only want of memory leaves it unanswered, and then
     // nothing has changed.
     pub fn answer(
@@ -177,13 +195,11 @@ impl Job {
         line: Line,
         number: usize,
     ) -> Result<String, AllocError>
-        ensures { λ r. ⌜ Cases r (λ s. Answered (now (text .entry)) (line .start) (line .end) number
-            (keptBy (now (self .entry))) (string-bytes s) (keptBy (now (self .exit))))
+        ensures { λ r. ⌜ Cases r
+            (λ s. Answered (now (text .entry)) (line .start) (line .end) number (keptBy (now (self .entry)))
+            (string-bytes s) (keptBy (now (self .exit))))
             (λ _. keptBy (now (self .exit)) ≡ keptBy (now (self .entry))) ⌝ }
     {
-        match command_of(text, line, number) {
-            Ok(command) => self.reply(heap, command),
-            Err(fault) => malformed_line(heap, fault.place),
-        }
+        self.answer_either(heap, text, line, number)
     }
 }

@@ -5,11 +5,12 @@ use Prim.Native.Nat.{ℕ, suc, _+_, _-_, _*_, _^_, _<_}
 use native.Mathlib.Omega.{arith}
 use lib.ListN.{length, take, drop, length-append}
 use lib.Ieee.{Float}
-use Rattle.std.proofs.shelf.Lists.{drop-at, append-cancel-left, length-map}
+use Rattle.std.proofs.shelf.Lists.{append-cancel-left, length-map}
 use Rattle.text.specs.Hex.{hexText}
 use Rattle.text.specs.Grammar.{spaced, Parted}
 use Rattle.text.specs.Lines.{part}
 use Rattle.text.proofs.HexLaws.{length-hexText}
+use Rattle.text.proofs.Digits.{same-rest}
 use Rattle.questions.specs.Spelling.{numbersText, AllSized, Words}
 
 pub length-numbers : (ns : List ℕ) → length (numbersText ns) ≡ 17 * length ns
@@ -47,12 +48,6 @@ pub parted-numbers : (ns s : List ℕ) → Parted s → Parted (numbersText ns +
 parted-numbers [] s p = p
 parted-numbers (n ∷ ns) s p = refl
 
-pub after-first : (m n : ℕ) (xs ys : List ℕ) → spaced m ++ xs ≡ spaced n ++ ys → xs ≡ ys
-after-first m n xs ys e =
-    let at-m = drop-at (spaced m) xs 17 (omega (arith, length-hexText 16 m)) in
-    let at-n = drop-at (spaced n) ys 17 (omega (arith, length-hexText 16 n)) in
-    sym at-m ∙ ap (drop 17) e ∙ at-n
-
 -- as many numbers as stand in a text end where its numbers end
 pub same-count : (ms ns s r : List ℕ) → AllSized ms → Parted s → Plain s → NoneAt r →
     numbersText ms ++ s ≡ numbersText ns ++ r → (length ms ≡ length ns) × (s ≡ r)
@@ -65,7 +60,7 @@ same-count (m ∷ ms) [] s r h p plain none e =
 same-count (m ∷ ms) (n ∷ ns) s r h p plain none e =
     let left = append-assoc (spaced m) (numbersText ms) s in
     let right = append-assoc (spaced n) (numbersText ns) r in
-    let rest = after-first m n (numbersText ms ++ s) (numbersText ns ++ r) (sym left ∙ e ∙ right) in
+    let rest = same-rest m n (numbersText ms ++ s) (numbersText ns ++ r) (sym left ∙ e ∙ right) in
     let more = same-count ms ns s r (h .1) p plain none rest in
     (ap suc (more .0), more .1)
 
