@@ -39,15 +39,14 @@ pub record Coupled (far : Point → Point → Result Float Fault) (X Y : List Po
 
 -- an answer for two lines with points; the space is asked from the longer line's point to the shorter's
 abbrev pub LeastOverCouplings : (Point → Point → Result Float Fault) → List Point → List Point
-    → Result Float Fault
-    → Type 0
+    → Result Float Fault → Type 0
 LeastOverCouplings far A B (Ok d) = 0 < length A → 0 < length B → Coupled far (longer A B) (shorter A B) d
 LeastOverCouplings far A B (Err f) = Unit {0}
 
 -- d is what some call answers for the two lines, in one order or the other
 abbrev pub Answers : (Point → Point → Result Float Fault) → List Point → List Point → Float → Type 0
-Answers far A B d = (cells : List Float) × ((frechet far A B cells .result ≡ Ok d) ⊎
-    (frechet far B A cells .result ≡ Ok d))
+Answers far A B d =
+    (cells : List Float) × ((frechet far A B cells .result ≡ Ok d) ⊎ (frechet far B A cells .result ≡ Ok d))
 
 -- distances agree both ways
 abbrev pub Mutual : (Point → Point → Result Float Fault) → List Point → List Point → Type 0
