@@ -14,17 +14,17 @@ use Rattle.table.proofs.Segments as seg
 use Rattle.table.proofs.Segments.{AllHeld, all-map}
 use Rattle.table.proofs.Places.{Place, InLine, IsFree}
 
-abbrev Numbered : ℕ → ℕ → Held → Type 0
+abbrev pub Numbered : ℕ → ℕ → Held → Type 0
 Numbered lo hi g = (lo ≤ g .edit) × (g .edit ≤ hi)
 
 abbrev pub UpTo : ℕ → Held → Type 0
 UpTo e g = g .edit ≤ e
 
 module _ (t : List Record) (h : Head) (w : Whole t h) where
-  line-held : AllHeld (Numbered 0 (h .newest)) (lineOf t h)
+  pub line-held : AllHeld (Numbered 0 (h .newest)) (lineOf t h)
   line-held = seg.held-of t 0 (h .newest) (h .count) (h .first) (w .line)
 
-  free-held : AllHeld (Numbered freeNumber freeNumber) (freeOf t h)
+  pub free-held : AllHeld (Numbered freeNumber freeNumber) (freeOf t h)
   free-held = seg.held-of t freeNumber freeNumber (freeCount t h) (h .free) (w .free)
 
   -- a walk at the start of the line

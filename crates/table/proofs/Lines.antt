@@ -42,7 +42,7 @@ before-all e [] w = refl
 before-all e (c ∷ cs) w =
     rw (lt-ltb (c .held .edit) e (w .0)) (ap (λ v. c .held ∷ v) (before-all e cs (w .1)))
 
-before-twice : (i e : ℕ) (gs : List Held) → i ≤ e → heldBefore i (heldBefore e gs) ≡ heldBefore i gs
+pub before-twice : (i e : ℕ) (gs : List Held) → i ≤ e → heldBefore i (heldBefore e gs) ≡ heldBefore i gs
 before-twice i e [] h = refl
 before-twice i e (g ∷ gs) h =
     let q : heldBefore i (heldBefore e gs) ≡ heldBefore i gs = before-twice i e gs h in
@@ -51,20 +51,20 @@ before-twice i e (g ∷ gs) h =
       | inr le ↦ rw (le-ltb (g .edit) e le, le-ltb (g .edit) i (omega arith)) q
     ]
 
-lines-before : (n e : ℕ) (gs : List Held) → n ≤ e → linesBefore n (heldBefore e gs) ≡ linesBefore n gs
+pub lines-before : (n e : ℕ) (gs : List Held) → n ≤ e → linesBefore n (heldBefore e gs) ≡ linesBefore n gs
 lines-before zero e gs h = refl
 lines-before (suc n) e gs h =
     let p : heldBefore (suc n) (heldBefore e gs) ≡ heldBefore (suc n) gs = before-twice (suc n) e gs h in
     let q : linesBefore n (heldBefore e gs) ≡ linesBefore n gs = lines-before n e gs (omega arith) in
     cc
 
-before-new : (i e : ℕ) (gs : List Held) (ps : List Point) → i ≤ e
+pub before-new : (i e : ℕ) (gs : List Held) (ps : List Point) → i ≤ e
     → heldBefore i (gs ++ newHeld e ps) ≡ heldBefore i gs
 before-new i e [] [] h = refl
 before-new i e [] (p ∷ ps) h = rw (le-ltb e i h) (before-new i e [] ps h)
 before-new i e (g ∷ gs) ps h = ap (λ v. cond (ltb (g .edit) i) (g ∷ v) v) (before-new i e gs ps h)
 
-lines-new : (n e : ℕ) (gs : List Held) (ps : List Point) → n ≤ e
+pub lines-new : (n e : ℕ) (gs : List Held) (ps : List Point) → n ≤ e
     → linesBefore n (gs ++ newHeld e ps) ≡ linesBefore n gs
 lines-new zero e gs ps h = refl
 lines-new (suc n) e gs ps h =
@@ -82,11 +82,11 @@ held-new e f [] h = refl
 held-new e [] (p ∷ ps) h = absurd (omega arith)
 held-new e (c ∷ f) (p ∷ ps) h = ap (λ v. record { point = p; edit = e } ∷ v) (held-new e f ps (omega arith))
 
-points-settled : (cs : List Node) → pointsOf (heldBy (map settled cs)) ≡ pointsOf (heldBy cs)
+pub points-settled : (cs : List Node) → pointsOf (heldBy (map settled cs)) ≡ pointsOf (heldBy cs)
 points-settled [] = refl
 points-settled (c ∷ cs) = ap (λ v. c .held .point ∷ v) (points-settled cs)
 
-length-lines : (n : ℕ) (gs : List Held) → length (linesBefore n gs) ≡ n
+pub length-lines : (n : ℕ) (gs : List Held) → length (linesBefore n gs) ≡ n
 length-lines zero gs = refl
 length-lines (suc n) gs = ap suc (length-lines n gs)
 

@@ -10,6 +10,7 @@ ghost use denote.Ref.{now};
 ghost use mathlib.Core.List.{[]};
 ghost use mathlib.Core.Path.{_≡_};
 ghost use Prim.Native.Nat.{ℕ, _<_};
+ghost use lib.Dec.{ltb};
 ghost use lib.ListN.{length};
 ghost use Rattle.table.specs.Chains.{indexAt};
 ghost use Rattle.table.specs.Lines.{lineFrom, keptLine};
@@ -48,6 +49,13 @@ impl<'a> Chain<'a> {
             here: first,
         }
     }
+
+    // Whether a point is left.
+    fn is_inside(&self) -> bool
+        ensures { λ r. ⌜ r ≡ ltb (now (self .entry) .at) (now (self .entry) .count) ⌝ }
+    {
+        self.at < self.count
+    }
 }
 
 pub impl CoordsIter for Chain<'_> as ChainCoords {
@@ -65,7 +73,7 @@ pub impl CoordsIter for Chain<'_> as ChainCoords {
     }
 
     fn current(&self) -> Option<Point> {
-        if self.at < self.count {
+        if self.is_inside() {
             Some(record_at(self.table, self.here).point())
         } else {
             None
@@ -73,7 +81,7 @@ pub impl CoordsIter for Chain<'_> as ChainCoords {
     }
 
     fn advance(&mut self) {
-        if self.at < self.count {
+        if self.is_inside() {
             self.here = record_at(self.table, self.here).next;
             self.at += 1;
         }
