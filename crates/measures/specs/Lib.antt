@@ -1,1 +1,2 @@
 pub mod Length
+pub mod Pieces

@@ -13,3 +13,7 @@ pub mod Finite
 pub mod Orders
 pub mod Positions
 pub mod Lines
+pub mod Weaving
+pub mod Parts
+pub mod Asides
+pub mod Refining

@@ -8,3 +8,5 @@ pub mod Format
 pub mod Append
 pub mod Undo
 pub mod Settle
+pub mod Weave
+pub mod Densify

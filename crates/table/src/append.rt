@@ -31,7 +31,7 @@ fn line_end(table: &[Record], head: &Head) -> u16
 }
 
 // How many records are free.
-fn free_count(table: &[Record], head: &Head) -> usize
+pub(crate) fn free_count(table: &[Record], head: &Head) -> usize
     requires { ⌜ Checked (now table) (now head) ⌝ }
     ensures { λ r. ⌜ r ≡ freeCount (now (table .entry)) (now (head .entry)) ⌝ }
 {

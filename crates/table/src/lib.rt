@@ -1,10 +1,12 @@
 // A table of point records that keeps one line. Each edit has a number, and the newest can be taken back.
 pub mod append;
 pub mod chain;
+pub mod densify;
 pub mod format;
 mod links;
 pub mod settle;
 pub mod undo;
+mod weave;
 pub mod whole;
 
 use points::fault::Cause;

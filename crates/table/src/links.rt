@@ -11,14 +11,14 @@ ghost use Rattle.table.specs.Links.{freed, numbered, linkTable, linkHead};
 ghost use Rattle.table.specs.Links.{releasedTable, releasedHead, insertedTable, insertedHead};
 ghost use Rattle.table.specs.Numbers.{mostRecords};
 
-pub fn record_at(table: &[Record], index: u16) -> Record
+pub(crate) fn record_at(table: &[Record], index: u16) -> Record
     requires { ⌜ index < length (now table) ⌝ }
     ensures { λ r. ⌜ r ≡ recordAt (now (table .entry)) index ⌝ }
 {
     table[index as usize]
 }
 
-pub fn free_record(next: u16) -> Record
+pub(crate) fn free_record(next: u16) -> Record
     ensures { λ r. ⌜ r ≡ freed next ⌝ }
 {
     Record {
@@ -30,7 +30,7 @@ pub fn free_record(next: u16) -> Record
 }
 
 // Sets the link behind `before`: the one in that record, or the head's where `before` is 0.
-pub fn link(table: &mut [Record], head: &mut Head, before: u16, to: u16)
+pub(crate) fn link(table: &mut [Record], head: &mut Head, before: u16, to: u16)
     requires { ⌜ before < length (now table) ⌝ }
     ensures table { λ _. ⌜ now (table .exit) ≡ linkTable (now (table .entry)) before to ⌝ }
     ensures head { λ _. ⌜ now (head .exit) ≡ linkHead (now (head .entry)) before to ⌝ }
@@ -43,7 +43,7 @@ pub fn link(table: &mut [Record], head: &mut Head, before: u16, to: u16)
 }
 
 // Takes the record `here`, which follows `before`, out of the line and puts it before the free ones.
-pub fn release(table: &mut [Record], head: &mut Head, before: u16, here: u16)
+pub(crate) fn release(table: &mut [Record], head: &mut Head, before: u16, here: u16)
     requires before { ⌜ before < length (now table) ⌝ }
     requires here { ⌜ here < length (now table) ⌝ }
     requires some { ⌜ 0 < now head .count ⌝ }
@@ -60,7 +60,14 @@ pub fn release(table: &mut [Record], head: &mut Head, before: u16, here: u16)
 }
 
 // Takes the first free record into the line with the point, between `before` and `here`.
-pub fn insert(table: &mut [Record], head: &mut Head, before: u16, here: u16, point: Point, edit: u8)
+pub(crate) fn insert(
+    table: &mut [Record],
+    head: &mut Head,
+    before: u16,
+    here: u16,
+    point: Point,
+    edit: u8,
+)
     requires before { ⌜ before < length (now table) ⌝ }
     requires free { ⌜ now head .free < length (now table) ⌝ }
     requires room { ⌜ now head .count + 1 < mostRecords ⌝ }
@@ -81,7 +88,7 @@ pub fn insert(table: &mut [Record], head: &mut Head, before: u16, here: u16, poi
 }
 
 // Gives the record another edit number, and answers with its link.
-pub fn renumber(table: &mut [Record], here: u16, edit: u8) -> u16
+pub(crate) fn renumber(table: &mut [Record], here: u16, edit: u8) -> u16
     requires { ⌜ here < length (now table) ⌝ }
     ensures table { λ _. ⌜
         now (table .exit)
