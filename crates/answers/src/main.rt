@@ -1,4 +1,6 @@
 // Reads questions from standard input, one to a line, and prints a line for each.
+#![tactic(auto)]
+
 use questions::answer::answer_line;
 use std::io;
 use text::input::fill;

@@ -1,4 +1,6 @@
 // The two square roots, for a benchmark in C.
+#![tactic(auto)]
+
 ghost use Rattle.std.specs.Prelude.{◌≡◌};
 ghost use Rattle.std.specs.Float.{sqrt as rootOf, binary64};
 

@@ -1,4 +1,6 @@
 // Examples that are proved safe and then run.
+#![tactic(auto)]
+
 #[cfg(test)]
 mod frechet_examples;
 #[cfg(test)]

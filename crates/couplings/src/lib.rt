@@ -1,1 +1,2 @@
 // The mathematics of couplings.
+#![tactic(auto)]

@@ -1,4 +1,6 @@
 // The discrete Fréchet distance of two lines.
+#![tactic(auto)]
+
 mod cell;
 pub mod distance;
 pub mod next;

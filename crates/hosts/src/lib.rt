@@ -1,4 +1,6 @@
 // The functions that a machine may lack, and two ways to have them.
+#![tactic(auto)]
+
 mod arc;
 mod circle;
 pub mod host;

@@ -1,4 +1,6 @@
 // Reads a job from standard input and prints a line for each of its lines.
+#![tactic(auto)]
+
 use job::answer::{LONGEST_JOB, check_length};
 use job::job::Job;
 use std::io;

@@ -1,4 +1,6 @@
 // Compares `square_root` with the standard library's root, bit for bit.
+#![tactic(auto)]
+
 use roots::square_root;
 use std::io;
 use std::num::{f64_from_bits_with_nan, f64_to_bits_with_nan};

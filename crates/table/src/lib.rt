@@ -1,4 +1,6 @@
 // A table of point records that keeps one line. Each edit has a number, and the newest can be taken back.
+#![tactic(auto)]
+
 pub mod append;
 pub mod chain;
 pub mod densify;

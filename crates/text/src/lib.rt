@@ -1,4 +1,6 @@
 // Reads texts of lines, each of words parted by one space, and writes the lines that answer them.
+#![tactic(auto)]
+
 pub mod command;
 pub mod hex;
 pub mod input;
