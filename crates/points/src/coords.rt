@@ -36,7 +36,7 @@ pub const MOST_POINTS: usize = 65_535;
 
 // How many points the line has, if a call may be given so many.
 pub fn given_count<L: CoordsIter>(line: &L) -> Result<usize, Cause>
-    ensures { result ≡ fits (length (coords line.now)) }
+    ensures { result ≡ fits (length (L.coords line.now)) }
 {
     let count = line.coords_count();
     if count <= MOST_POINTS {
