@@ -5,7 +5,8 @@ use lib.Ieee.Bits.{of_bits-to_bits}
 use lib.Ieee.Digits.{size-lt, size-le}
 use lib.Ieee.Fits.{round_is}
 use lib.Ieee.Nearest.{closest, closest_same}
-use Rattle.std.specs.Float.{twice-sqrt-sticky, sqrt}
+use Rattle.std.specs.Float.Ieee.{root_twice}
+use Rattle.std.specs.Float.{sqrt}
 use Rattle.roots.specs.Certificate.{NearestWhole, Parts}
 use Rattle.roots.proofs.WholeRoots.{at_most, at_least, reaches}
 use Rattle.roots.proofs.Doubles.{sqrt_is}
@@ -41,7 +42,7 @@ module _ (d p j : ℕ) (A : 2 ^ 104 ≤ d) (B : d < 2 ^ 106) (lo : p * p + p < d
   n = 4 * d * (c * c)
 
   abbrev r : ℕ
-  r = twice-sqrt-sticky n
+  r = root_twice n
 
   c_pos : 0 < c
   c_pos = pow_pos (j + 1196)
@@ -192,7 +193,7 @@ certified m k p A B K lo hi =
     let M : 0 < m = omega arith in
     packed (p + 1) j g.0 g.1 J
     ∙ sym (sqrt_is (of_bits binary64 (k * 2 ^ 52 + m)) (m * 2 ^ k) (read m k A B K) (mul-pos M (pow_pos k))
-    ∙ ap (λ (x : ℕ). round binary64 false (twice-sqrt-sticky x) (2 ^ 2272)) (split m k)
+    ∙ ap (λ (x : ℕ). round binary64 false (root_twice x) (2 ^ 2272)) (split m k)
     ∙ rounded d p j e.0 D lo hi)
 
 -- ---- for the answers

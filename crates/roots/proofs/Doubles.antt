@@ -6,7 +6,8 @@ use lib.Ieee.{Float, nan, inf, fin, binary64, up, down, round, fits}
 use lib.Ieee.Exact.{HasValue}
 use lib.Ieee.Fits.{and_l, and_r, up_pos, down_pos}
 use lib.Ieee.Positive.{positive}
-use Rattle.std.specs.Float.{twice-sqrt-sticky, sqrt, float_is_finite}
+use Rattle.std.specs.Float.Ieee.{root_twice}
+use Rattle.std.specs.Float.{sqrt, float_is_finite}
 use Rattle.roots.specs.Nearest.{steps}
 
 -- ---- powers of 2
@@ -148,7 +149,7 @@ scaled a d v D e =
     ∙ mul-div_cancel (v * 2 ^ 3468) D
 
 pub sqrt_is : (x : Float) (v : ℕ) → HasValue x false v (2 ^ 1074) → 0 < v
-    → sqrt binary64 x ≡ round binary64 false (twice-sqrt-sticky (v * 2 ^ 3468)) (2 ^ 2272)
+    → sqrt binary64 x ≡ round binary64 false (root_twice (v * 2 ^ 3468)) (2 ^ 2272)
 unfolding sqrt
 sqrt_is nan v h V = absurd h
 sqrt_is (inf s) v h V = absurd h
@@ -158,5 +159,5 @@ sqrt_is (fin false zero e) v h V =
     let p : 0 < v * down e = mul-pos V (down_pos e) in
     absurd (not-le_of_lt p (le_of_eq (sym h.1 ∙ z)))
 sqrt_is (fin false (suc m) e) v h V =
-    ap (λ (n : ℕ). round binary64 false (twice-sqrt-sticky n) (2 ^ 2272))
+    ap (λ (n : ℕ). round binary64 false (root_twice n) (2 ^ 2272))
     (scaled (suc m * up e) (down e) v (down_pos e) h.1)

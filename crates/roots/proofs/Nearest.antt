@@ -5,7 +5,8 @@ use lib.Ieee.Exact.{HasValue}
 use lib.Ieee.Fits.{round-fits}
 use lib.Ieee.Positive.{positive, positive_of_value}
 use lib.Ieee.Scale.{grid, round_val}
-use Rattle.std.specs.Float.{twice-sqrt-sticky, sqrt, float_is_finite, is_sign_negative}
+use Rattle.std.specs.Float.Ieee.{root_twice}
+use Rattle.std.specs.Float.{sqrt, float_is_finite, is_sign_negative}
 use Rattle.roots.specs.Nearest.{steps, Farther, NearestRoot}
 use Rattle.roots.proofs.WholeRoots.{at_most, at_least}
 use Rattle.roots.proofs.Doubles.{Digits, decode, exact, value, range, steps_of, in_units, sqrt_is}
@@ -51,33 +52,33 @@ module _ (v : ℕ) (V : v < 2 ^ 2098) where
   n = v * 2 ^ 3468
 
   abbrev g : ℕ
-  g = grid binary64 (twice-sqrt-sticky n) (2 ^ 2272)
+  g = grid binary64 (root_twice n) (2 ^ 2272)
 
   n_lt : n < 2 ^ 2783 * 2 ^ 2783
   n_lt = mul-lt-mul_of_pos_right V (pow_pos 3468)
 
-  root_le : twice-sqrt-sticky n ≤ 2 * 2 ^ 2783
+  root_le : root_twice n ≤ 2 * 2 ^ 2783
   root_le =
-      le_of_lt (lt_of_not-le (λ (h : 2 * 2 ^ 2783 ≤ twice-sqrt-sticky n). not-le_of_lt n_lt (at_least n (2 ^ 2783) h)))
+      le_of_lt (lt_of_not-le (λ (h : 2 * 2 ^ 2783 ≤ root_twice n). not-le_of_lt n_lt (at_least n (2 ^ 2783) h)))
 
   g_lt : g < 2 ^ 2098
   g_lt =
-      capped g (2 ^ 2272) (twice-sqrt-sticky n) (2 ^ 1074) (2 * 2 ^ 2783) (2 ^ 2098) root_le
-      (grid_le (twice-sqrt-sticky n) (2 ^ 2272)) (lit< tt)
+      capped g (2 ^ 2272) (root_twice n) (2 ^ 1074) (2 * 2 ^ 2783) (2 ^ 2098) root_le
+      (grid_le (root_twice n) (2 ^ 2272)) (lit< tt)
 
-  rounded_value : HasValue (round binary64 false (twice-sqrt-sticky n) (2 ^ 2272)) false g (2 ^ 1074)
-  rounded_value = round_val binary64 (twice-sqrt-sticky n) (2 ^ 2272) g_lt
+  rounded_value : HasValue (round binary64 false (root_twice n) (2 ^ 2272)) false g (2 ^ 1074)
+  rounded_value = round_val binary64 (root_twice n) (2 ^ 2272) g_lt
 
   near_digits : (p t : ℕ) → p < 2 ^ 53 → AsNear (v * 2 ^ 1074) g (p * 2 ^ t)
   near_digits p t P =
       let s = g + p * 2 ^ t in
       let c = 2 ^ 1196 in (
         λ h. square_up v s c (2 ^ 1074) (pow_pos 2392)
-            (at_most n (s * c) (lift (twice-sqrt-sticky n) s c (2 ^ 1074) (pow_pos 1074)
-            (nearer_above (twice-sqrt-sticky n) (2 ^ 2272) p t (pow_pos 2272) P h))),
+            (at_most n (s * c) (lift (root_twice n) s c (2 ^ 1074) (pow_pos 1074)
+            (nearer_above (root_twice n) (2 ^ 2272) p t (pow_pos 2272) P h))),
         λ h. square_down v s c (2 ^ 1074) (pow_pos 2392)
-            (at_least n (s * c) (press (twice-sqrt-sticky n) s c (2 ^ 1074) (pow_pos 1074)
-            (nearer_below (twice-sqrt-sticky n) (2 ^ 2272) p t (pow_pos 2272) P h))),
+            (at_least n (s * c) (press (root_twice n) s c (2 ^ 1074) (pow_pos 1074)
+            (nearer_below (root_twice n) (2 ^ 2272) p t (pow_pos 2272) P h))),
       )
 
   near : (y : ℕ) → Digits y → AsNear (v * 2 ^ 1074) g y
@@ -138,14 +139,14 @@ pub nearest_root : (x : Float) → T (fits binary64 x) → T (positive x) → Ne
 nearest_root x f p =
     let v = steps x in
     let b = range x f p in
-    let r = round binary64 false (twice-sqrt-sticky (v * 2 ^ 3468)) (2 ^ 2272) in
+    let r = round binary64 false (root_twice (v * 2 ^ 3468)) (2 ^ 2272) in
     let h = rounded_value v b.1 in
     let G : steps r ≡ g v b.1 = steps_of r (g v b.1) h in
     let d = decode x f (positive_finite x p) in
     let q = shifted v d.0 d.1 d.3 in
     let law = strict (v * 2 ^ 1074) (g v b.1) d.0 (d.1 + 1074) d.2 q (near v b.1) in
     subst (NearestRoot x) (sym (sqrt_is x v (value x f p) b.0))
-    (nearest_of x r (round-fits binary64 false (twice-sqrt-sticky (v * 2 ^ 3468)) (2 ^ 2272))
+    (nearest_of x r (round-fits binary64 false (root_twice (v * 2 ^ 3468)) (2 ^ 2272))
     (positive_of_value r (g v b.1) (2 ^ 1074) h (not_zero v b.1 b.0))
     (subst (λ (k : ℕ). 0 < k) (sym G) (not_zero v b.1 b.0))
     (subst (λ (k : ℕ). (y : ℕ) → Digits y → Nearer (v * 2 ^ 1074) k y) (sym G) law))

@@ -2,7 +2,7 @@
 use Rattle.std.proofs.Common.{◌≡◌, ℕ, zero, suc, ◌+◌, ◌*◌, ◌/◌, ◌^◌, ◌<◌, ◌≤◌, Bool, true, false, cond, eqb, leb, sym, refl, le_trans, le_of_eq, mul-le-mul, lt_of_not-le, arith, eqb-true, leb-false, leb-true}
 use lib.Ieee.{size}
 use lib.Ieee.Digits.{size-lt}
-use Rattle.std.specs.Float.{isqrt-below, twice-sqrt-sticky}
+use Rattle.std.specs.Float.Ieee.{root_below, root_twice}
 
 abbrev Root : ℕ → ℕ → Type 0
 Root s n = (s * s ≤ n) × (n < (s + 1) * (s + 1))
@@ -12,48 +12,48 @@ digit : (r n : ℕ) (b : Bool) → Root r (n / 4) → leb ((2 * r + 1) * (2 * r 
 digit r n true h e = (leb-true _ _ e, omega (arith, h.1))
 digit r n false h e = (omega (arith, h.0), leb-false _ _ e)
 
-whole : (k n : ℕ) → n < 2 ^ k → Root (isqrt-below k n) n
-unfolding isqrt-below
+whole : (k n : ℕ) → n < 2 ^ k → Root (root_below k n) n
+unfolding root_below
 whole zero n h = omega arith
-whole (suc k) n h = digit (isqrt-below k (n / 4)) n _ (whole k (n / 4) (omega arith)) refl
+whole (suc k) n h = digit (root_below k (n / 4)) n _ (whole k (n / 4) (omega arith)) refl
 
 -- ---- 2 t against twice the root of n, by t * t against n
 
-pub at_most : (n t : ℕ) → twice-sqrt-sticky n ≤ 2 * t → n ≤ t * t
-unfolding twice-sqrt-sticky
+pub at_most : (n t : ℕ) → root_twice n ≤ 2 * t → n ≤ t * t
+unfolding root_twice
 at_most n t h = go (eqb (s * s) n) (eqb-true (s * s) n) h
   where
     s : ℕ
-    s = isqrt-below (size n) n
+    s = root_below (size n) n
 
-    go : (b : Bool) → (b ≡ true → isqrt-below (size n) n * isqrt-below (size n) n ≡ n)
-        → 2 * isqrt-below (size n) n + cond b 0 1 ≤ 2 * t → n ≤ t * t
+    go : (b : Bool) → (b ≡ true → root_below (size n) n * root_below (size n) n ≡ n)
+        → 2 * root_below (size n) n + cond b 0 1 ≤ 2 * t → n ≤ t * t
     go true e l =
-        let r = isqrt-below (size n) n in
+        let r = root_below (size n) n in
         let a : r ≤ t = omega arith in
         let b : r * r ≤ t * t = mul-le-mul a a in
         le_trans (le_of_eq (sym (e refl))) b
     go false e l =
-        let r = isqrt-below (size n) n in
+        let r = root_below (size n) n in
         let a : r + 1 ≤ t = omega arith in
         let b : (r + 1) * (r + 1) ≤ t * t = mul-le-mul a a in
         omega (arith, (whole (size n) n (size-lt n)).1)
 
-pub at_least : (n t : ℕ) → 2 * t ≤ twice-sqrt-sticky n → t * t ≤ n
-unfolding twice-sqrt-sticky
-at_least n t h = go (eqb (isqrt-below (size n) n * isqrt-below (size n) n) n) h
+pub at_least : (n t : ℕ) → 2 * t ≤ root_twice n → t * t ≤ n
+unfolding root_twice
+at_least n t h = go (eqb (root_below (size n) n * root_below (size n) n) n) h
   where
-    go : (b : Bool) → 2 * t ≤ 2 * isqrt-below (size n) n + cond b 0 1 → t * t ≤ n
+    go : (b : Bool) → 2 * t ≤ 2 * root_below (size n) n + cond b 0 1 → t * t ≤ n
     go b l =
-        let r = isqrt-below (size n) n in
+        let r = root_below (size n) n in
         let c : cond b 0 1 ≤ 1 = elim b as (λ v. cond v 0 1 ≤ 1) [ true ↦ omega arith | false ↦ omega arith ] in
         let a : t ≤ r = omega arith in
         le_trans (mul-le-mul a a) (whole (size n) n (size-lt n)).0
 
-pub reaches : (n t : ℕ) → t * t ≤ n → 2 * t ≤ twice-sqrt-sticky n
-unfolding twice-sqrt-sticky
+pub reaches : (n t : ℕ) → t * t ≤ n → 2 * t ≤ root_twice n
+unfolding root_twice
 reaches n t h =
-    let r = isqrt-below (size n) n in
+    let r = root_below (size n) n in
     let a : t < r + 1 = lt_of_not-le (λ (g : r + 1 ≤ t).
     let b : (r + 1) * (r + 1) ≤ t * t = mul-le-mul g g in
     omega (arith, (whole (size n) n (size-lt n)).1)) in

@@ -109,7 +109,7 @@ fn certified_root(x: f64) -> Option<f64>
     Some(f64::from_bits(base + digits))
 }
 
-// The certified root, and the library's, which is slower, where there is none.
+// The certified root, and the library's where there is none.
 fn rounded_root(x: f64) -> f64
     ensures { result ≡ Floats.sqrt binary64 x }
 {
@@ -119,7 +119,7 @@ fn rounded_root(x: f64) -> f64
     }
 }
 
-// The square root of x, as `x.sqrt()` has it and in less time: the double nearest to the exact root.
+// The square root of x, as `x.sqrt()` has it: the double nearest to the exact root.
 pub fn square_root(x: f64) -> f64
     ensures value { result ≡ Floats.sqrt binary64 x }
     ensures nearest { T (positive x) → NearestRoot x result }

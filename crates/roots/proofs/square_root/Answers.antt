@@ -9,9 +9,9 @@ use Rattle.roots.proofs.square_root.Goals as goal
 pub returns : goal.returns
 returns c =
     let x = c.args.x in
-    let e = c.rounded-root.ensures in
+    let e = c.rounded_root.ensures in
     record {
       value = e;
-      nearest = λ p. subst (NearestRoot x) (sym e) (nearest_root x (subst T (sym c.well-formed.0.1) tt) p);
+      nearest = λ p. subst (NearestRoot x) (sym e) (nearest_root x (subst T (sym c.well_formed.0.1) tt) p);
       others = subst (SpecialRoot x) (sym e) (special_root x);
     }
