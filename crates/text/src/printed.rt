@@ -19,7 +19,7 @@ pub fn status_line(heap: Global, letter: Letter, number: u8) -> Result<String, A
     ensures { IfOk result (λ s. string_bytes s ≡ status_text letter number) }
 {
     let name = name_of(letter);
-    format!(heap, "{name} {number}")
+    format!(in heap; "{name} {number}")
 }
 
 // The letter, a space, and the bits in hexadecimal capitals.
@@ -28,14 +28,14 @@ pub fn bits_line(heap: Global, letter: Letter, bits: u64) -> Result<String, Allo
 {
     let name = name_of(letter);
     let digits = capitals(heap, bits)?;
-    format!(heap, "{name} {digits}")
+    format!(in heap; "{name} {digits}")
 }
 
 // The answer to a line that spells no command, with the line's number.
 pub fn malformed_line(heap: Global, number: usize) -> Result<String, AllocError>
     ensures { IfOk result (λ s. string_bytes s ≡ malformed_text number) }
 {
-    format!(heap, "? 14 {number}")
+    format!(in heap; "? 14 {number}")
 }
 
 // The letter as text.

@@ -9,7 +9,7 @@ returns-in-Letter c =
     let job = c.args.job.now in
     let start = c.args.start in
     let end = c.args.end in
-    let word = subst (WordAt job start end) c.in-Letter.is c.in-ok-name.ensures in
+    let word = subst (WordAt job start end) c.in-Letter.is c.in_ok-name.ensures in
     by_letter c.dispatch.result job start end c.in-Letter.name.now
     word.inside word.whole word.sized c.dispatch.ensures
 
@@ -18,11 +18,11 @@ returns-in-Number c inside q sized e =
     let job = c.args.job.now in
     let start = c.args.start in
     let end = c.args.end in
-    let word = subst (WordAt job start end) c.in-Number.is c.in-ok-name.ensures in
+    let word = subst (WordAt job start end) c.in-Number.is c.in_ok-name.ensures in
     omega (arith, spelled_letter (part job start end) q e, ap length word.whole, word.sized)
 
-pub returns-in-err-name : goal.returns-in-err-name
-returns-in-err-name c =
-    rw c.from-residual.ensures (λ inside q sized e.
-    (c.in-err-name.ensures inside).no_letter
+pub returns-in_err-name : goal.returns-in_err-name
+returns-in_err-name c =
+    rw c.from_residual.ensures (λ inside q sized e.
+    (c.in_err-name.ensures inside).no_letter
     (spelled_letter (part c.args.job.now c.args.start c.args.end) q e))

@@ -11,7 +11,7 @@ loop-i-preserved c =
     let back : c.loop-i.i ≡ c.loop-i.i - 1 + 1 = omega arith in
     let inside : c.loop-i.i - 1 < length c.loop-i.text = omega arith in (
       length-set _ _ _ ∙ inv.0,
-      back_step (c.loop-i.i - 1) rest _ text _ inside c.hex-capital.ensures
+      back_step (c.loop-i.i - 1) rest _ text _ inside c.hex_capital.ensures
           (subst (λ i. hex_text i rest ++ drop i text ≡ hex_text 16 c.args.n) back inv.1),
     )
 

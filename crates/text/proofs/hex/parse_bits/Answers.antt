@@ -11,17 +11,17 @@ pub loop-b-init : goal.loop-b-init
 unfolding hex_text
 loop-b-init c = (omega arith, refl)
 
-pub returns-in-default : goal.returns-in-default
-returns-in-default c n lt e =
+pub returns-in_default : goal.returns-in_default
+returns-in_default c n lt e =
     let i = c.loop-b.b-index in
     let r = hex_at 16 n c.loop-b.b-index (omega arith) in
-    c.in-default.ensures r.0 r.1 (r.2 ∙ ap (λ l. get_or l i 0) e)
+    c.in_default.ensures r.0 r.1 (r.2 ∙ ap (λ l. get_or l i 0) e)
 
-pub overflow-mul-n : goal.overflow-mul-n
-overflow-mul-n c = omega (arith, room c.loop-b.n c.loop-b.b-index c.loop-b.invariant.0 (omega arith))
+pub overflow_mul-n : goal.overflow_mul-n
+overflow_mul-n c = omega (arith, room c.loop-b.n c.loop-b.b-index c.loop-b.invariant.0 (omega arith))
 
-pub overflow-add-n : goal.overflow-add-n
-overflow-add-n c =
+pub overflow_add-n : goal.overflow_add-n
+overflow_add-n c =
     let small = room c.loop-b.n c.loop-b.b-index c.loop-b.invariant.0 (omega arith) in
     omega (arith, c.in-Some.ensures)
 

@@ -10,7 +10,7 @@ returns c =
     let f = c.find.ensures in
     let k = c.find.result in
     let cut = sym (front_run rest k (record { within = f.within; before = f.before; found = f.found })) in
-    cases_to c.word-of.result _ _ _ _ c.word-of.ensures
+    cases_to c.word_of.result _ _ _ _ c.word_of.ensures
     (λ none inside. record {
       no_letter = λ e. none.0 (ap length cut ∙ e);
       no_number = λ e. none.1 (ap length cut ∙ e);
