@@ -1,11 +1,10 @@
 -- The laws of a space, for the plane.
-use Rattle.std.specs.Prelude.{◌≡◌, Bool, true, false, cond, not, ◌&&◌, T, ◌⊎◌, Some, None, Ok, Err, Option, Result, refl, Float}
+use Rattle.std.specs.Prelude.{◌≡◌, Bool, true, false, cond, ◌&&◌, T, Some, None, Ok, Err, Option, refl, Float}
 use Rattle.std.proofs.Common.{inl, inr}
 use Rattle.std.specs.Float.Ieee.{le, lt, eq, of_bits}
 use Rattle.std.specs.Float.Ieee.Fits.{and_l, and_r}
-use Rattle.std.specs.Float.{float_is_finite, is_sign_negative, float_with_sign, nan, inf, fin, binary64}
+use Rattle.std.specs.Float.{float_is_finite, is_sign_negative, float_with_sign, nan, inf, fin}
 use Rattle.points.specs.declared.fault.Cause.TheVariants.{NotFinite, NotAdmitted, BadResult}
-use Rattle.points.specs.declared.fault.Fault.{Fault}
 use Rattle.points.specs.declared.fault.Layer.TheVariants.{Space}
 use Rattle.points.specs.declared.point.Point.{Point}
 use Rattle.points.specs.Faults.{raised, after}
@@ -14,7 +13,7 @@ use Rattle.points.specs.Vectors.{sum, difference, multiple}
 use Rattle.hosts.specs.Meaning.{answered}
 use Rattle.spaces.specs.declared.euclidean.PlanePair.{PlanePair}
 use Rattle.points.specs.Finite.{finite_point}
-use Rattle.spaces.specs.Space.{is_distance, Measures, Lands, distance_answer}
+use Rattle.spaces.specs.Space.{Measures, Lands, distance_answer}
 use Rattle.spaces.specs.Plane as Plane
 
 -- ---- distances

@@ -82,7 +82,7 @@ pub fn distance_within<S: Space>(
     destination: Point,
     distance: f64,
 ) -> Result<bool, Fault>
-    ensures { result ≡ within (far space.now origin destination) distance }
+    ensures { result ≡ within (S.far space.now origin destination) distance }
 {
     if !distance.is_finite() {
         return Err(Fault::new(Cause::NotFinite, Layer::Space));

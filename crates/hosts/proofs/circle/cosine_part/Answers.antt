@@ -9,7 +9,7 @@ pub loop-k-preserved : goal.loop-k-preserved
 loop-k-preserved c =
     let k = c.loop-k.k in
     let z = c.args.r ⊗ c.args.r in
-    c.cosine-term-s.ensures
+    c.cosine_term-s.ensures
     ∙ turns_more (cosine_term z) one64 c.loop-k.s 9 (9 - k) k (9 - (k - 1)) (omega arith) (omega arith)
     c.loop-k.invariant
 

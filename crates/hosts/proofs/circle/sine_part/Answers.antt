@@ -10,7 +10,7 @@ pub loop-k-preserved : goal.loop-k-preserved
 loop-k-preserved c =
     let k = c.loop-k.k in
     let z = c.args.r ⊗ c.args.r in
-    c.sine-term-s.ensures
+    c.sine_term-s.ensures
     ∙ turns_more (sine_term z) one64 c.loop-k.s 9 (9 - k) k (9 - (k - 1)) (omega arith) (omega arith)
     c.loop-k.invariant
 

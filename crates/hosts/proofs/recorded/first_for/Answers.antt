@@ -18,12 +18,12 @@ at rs i f x y told h e =
     (first_for (drop (suc i) rs) f x y))
     (sym e)
 
-pub returns-then-is-for : goal.returns-then-is-for
-returns-then-is-for c =
-    ap Some c.f64-from-bits-with-nan.ensures
+pub returns-then-is_for : goal.returns-then-is_for
+returns-then-is_for c =
+    ap Some c.f64_from_bits_with_nan.ensures
     ∙ sym (at c.args.records.now c.loop-recorded.recorded-index c.args.function c.args.x
     c.args.y true
-    c.loop-recorded-test.true c.if-is-for.ensures)
+    c.loop-recorded-test.true c.if-is_for.ensures)
     ∙ c.loop-recorded.invariant
 
 pub loop-recorded-preserved : goal.loop-recorded-preserved
@@ -32,7 +32,7 @@ loop-recorded-preserved c =
     let rs = c.args.records.now in
     ap (λ (k : ℕ). first_for (drop k rs) c.args.function c.args.x c.args.y) (add-one i)
     ∙ sym (at rs i c.args.function c.args.x c.args.y false c.loop-recorded-test.true
-    c.if-is-for.ensures)
+    c.if-is_for.ensures)
     ∙ c.loop-recorded.invariant
 
 pub returns : goal.returns
