@@ -8,9 +8,9 @@ use spaces::space::Space;
 
 // The distances of the neighbours, added up in line order.
 fn total<S: Space, L: CoordsIter>(space: &S, line: &mut L) -> Result<f64, Fault>
-    requires { count_of (coords line.old) ≤ 65535 }
-    ensures line { coords line.new ≡ coords line.old }
-    ensures total { result ≡ total_of (far space.now) (coords line.old) }
+    requires { count_of (L.coords line.old) ≤ 65535 }
+    ensures line { L.coords line.new ≡ L.coords line.old }
+    ensures total { result ≡ total_of (S.far space.now) (L.coords line.old) }
 {
     line.rewind();
     let Some(mut start) = line.current() else {
@@ -40,8 +40,8 @@ fn finite_total(total: f64) -> Result<f64, Cause>
 }
 
 pub fn length<S: Space, L: CoordsIter>(space: &S, line: &mut L) -> Result<f64, Fault>
-    ensures line { coords line.new ≡ coords line.old }
-    ensures length { result ≡ length_of (far space.now) (coords line.old) }
+    ensures line { L.coords line.new ≡ L.coords line.old }
+    ensures length { result ≡ length_of (S.far space.now) (L.coords line.old) }
 {
     in_layer(given_count(line), Layer::Line)?;
     let total = total(space, line)?;

@@ -16,9 +16,9 @@ fn measure<S: Space, L: CoordsIter>(
     maximum: f64,
     layer: Layer,
 ) -> Result<u64, Fault>
-    requires { count_of (coords line.old) ≤ 65535 }
-    ensures line { coords line.new ≡ coords line.old }
-    ensures count { result ≡ taken (far space.now) layer maximum (coords line.old) }
+    requires { count_of (L.coords line.old) ≤ 65535 }
+    ensures line { L.coords line.new ≡ L.coords line.old }
+    ensures count { result ≡ taken (S.far space.now) layer maximum (L.coords line.old) }
 {
     line.rewind();
     let Some(mut start) = line.current() else {
@@ -39,7 +39,7 @@ fn measure<S: Space, L: CoordsIter>(
 
 // Asks for each point that parts so many pieces.
 fn ask_along<S: Space>(space: &S, pair: S::Pair, pieces: u32) -> Result<(), Fault>
-    ensures { result ≡ told (cut_from (between space.now pair) pieces (pieces - 1) 1) }
+    ensures { result ≡ told (cut_from (S.between space.now pair) pieces (pieces - 1) 1) }
 {
     for k in 1..pieces {
         space.point_at_ratio(pair, ratio_of(k, pieces))?;
@@ -49,7 +49,7 @@ fn ask_along<S: Space>(space: &S, pair: S::Pair, pieces: u32) -> Result<(), Faul
 
 // A pair is prepared once, and only where a point is asked for.
 fn ask_between<S: Space>(space: &S, start: Point, end: Point, pieces: u32) -> Result<(), Fault>
-    ensures { result ≡ told (cut_from (ratio space.now start end) pieces (pieces - 1) 1) }
+    ensures { result ≡ told (cut_from (S.ratio space.now start end) pieces (pieces - 1) 1) }
 {
     if pieces < 2 {
         return Ok(());
@@ -65,7 +65,7 @@ fn ask_pair<S: Space>(
     maximum: f64,
     layer: Layer,
 ) -> Result<(), Fault>
-    ensures { result ≡ told (points_between (far space.now) (ratio space.now)
+    ensures { result ≡ told (points_between (S.far space.now) (S.ratio space.now)
         layer maximum start end) }
 {
     let pieces = pieces_between(space, start, end, maximum, layer)?;
@@ -79,10 +79,10 @@ fn ask<S: Space, L: CoordsIter>(
     maximum: f64,
     layer: Layer,
 ) -> Result<(), Fault>
-    requires { count_of (coords line.old) ≤ 65535 }
-    ensures line { coords line.new ≡ coords line.old }
-    ensures points { result ≡ told (refined (far space.now) (ratio space.now)
-        layer maximum (coords line.old)) }
+    requires { count_of (L.coords line.old) ≤ 65535 }
+    ensures line { L.coords line.new ≡ L.coords line.old }
+    ensures points { result ≡ told (refined (S.far space.now) (S.ratio space.now)
+        layer maximum (L.coords line.old)) }
 {
     line.rewind();
     let Some(mut start) = line.current() else {
@@ -117,9 +117,9 @@ pub fn ask_densified<S: Space, L: CoordsIter>(
     room: u64,
     layer: Layer,
 ) -> Result<(), Fault>
-    ensures line { coords line.new ≡ coords line.old }
-    ensures points { result ≡ told (densified_by (far space.now) (ratio space.now)
-        layer maximum room (coords line.old)) }
+    ensures line { L.coords line.new ≡ L.coords line.old }
+    ensures points { result ≡ told (densified_by (S.far space.now) (S.ratio space.now)
+        layer maximum room (L.coords line.old)) }
 {
     in_layer(given_count(line), layer)?;
     let count = measure(space, line, maximum, layer)?;

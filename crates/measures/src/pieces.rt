@@ -43,7 +43,7 @@ pub fn pieces_between<S: Space>(
     maximum: f64,
     layer: Layer,
 ) -> Result<u32, Fault>
-    ensures { result ≡ pieces_between (far space.now) layer maximum start end }
+    ensures { result ≡ pieces_between (S.far space.now) layer maximum start end }
 {
     let distance = space.distance(start, end)?;
     in_layer(pieces(distance, maximum), layer)

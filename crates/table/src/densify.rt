@@ -28,7 +28,7 @@ fn next_number(head: &Head) -> Result<u8, Fault>
 // Measures the pairs, counts the free records and asks for the points.
 fn ask_line<S: Space>(table: &[Record], head: &Head, space: &S, maximum: f64) -> Result<(), Fault>
     requires { Checked table.now head.now }
-    ensures { result ≡ told (densified (far space.now) (ratio space.now) Table maximum
+    ensures { result ≡ told (densified (S.far space.now) (S.ratio space.now) Table maximum
         (free_count table.now head.now)
         (kept_line table.now head.now)) }
 {
@@ -40,7 +40,7 @@ fn ask_line<S: Space>(table: &[Record], head: &Head, space: &S, maximum: f64) ->
 // What a densify refuses on a checked table.
 fn ask_all<S: Space>(table: &[Record], head: &Head, space: &S, maximum: f64) -> Result<(), Fault>
     requires { Checked table.now head.now }
-    ensures { result ≡ told (outcome (far space.now) (ratio space.now) maximum
+    ensures { result ≡ told (outcome (S.far space.now) (S.ratio space.now) maximum
         table.now head.now) }
 {
     in_layer(check_maximum(maximum), Layer::Table)?;
@@ -58,10 +58,10 @@ fn refine<S: Space>(
     requires { Checked table.old head.old }
     ensures { elim result [
       | Ok _ ↦
-          DensifyOk (far space.now) (ratio space.now) maximum
+          DensifyOk (S.far space.now) (S.ratio space.now) maximum
           table.old head.old table.new head.new
       | Err f ↦
-          DensifyErr (far space.now) (ratio space.now) maximum
+          DensifyErr (S.far space.now) (S.ratio space.now) maximum
           table.old head.old f table.new head.new
     ] }
 {
@@ -79,10 +79,10 @@ pub fn densify<S: Space>(
 ) -> Result<(), Fault>
     ensures { elim result [
       | Ok _ ↦
-          DensifyOk (far space.now) (ratio space.now) maximum
+          DensifyOk (S.far space.now) (S.ratio space.now) maximum
           table.old head.old table.new head.new
       | Err f ↦
-          DensifyErr (far space.now) (ratio space.now) maximum
+          DensifyErr (S.far space.now) (S.ratio space.now) maximum
           table.old head.old f table.new head.new
     ] }
 {

@@ -23,7 +23,7 @@ fn or_origin(point: Result<Point, Fault>) -> Point
 }
 
 fn count_pieces<S: Space>(space: &S, start: Point, end: Point, maximum: f64) -> u32
-    ensures { result ≡ pieces_in (far space.now) maximum start end }
+    ensures { result ≡ pieces_in (S.far space.now) maximum start end }
 {
     match pieces_between(space, start, end, maximum, Layer::Table) {
         Ok(pieces) => pieces,
@@ -33,7 +33,7 @@ fn count_pieces<S: Space>(space: &S, start: Point, end: Point, maximum: f64) -> 
 
 // A pair is prepared once, and only where a point is to be written.
 fn prepare<S: Space>(space: &S, start: Point, end: Point, pieces: u32) -> Option<S::Pair>
-    ensures { result ≡ pair_for (paired space.now start end) pieces }
+    ensures { result ≡ pair_for (S.paired space.now start end) pieces }
 {
     if pieces < 2 {
         return None;
@@ -46,7 +46,7 @@ fn prepare<S: Space>(space: &S, start: Point, end: Point, pieces: u32) -> Option
 
 // Point `k` of so many pieces.
 fn part<S: Space>(space: &S, pair: Option<S::Pair>, k: u32, pieces: u32) -> Point
-    ensures { result ≡ part_of (between space.now) pair (ratio_of k pieces) }
+    ensures { result ≡ part_of (S.between space.now) pair (ratio_of k pieces) }
 {
     match pair {
         Some(pair) => or_origin(space.point_at_ratio(pair, ratio_of(k, pieces))),
@@ -59,8 +59,8 @@ fn weave_pairs<S: Space>(table: &mut [Record], head: &mut Head, space: &S, maxim
     requires checked { Checked table.old head.old }
     requires left { head.old.newest < last_edit }
     requires some { 0 < head.old.count }
-    requires room { Enough (parts_in (far space.now) maximum (ratio space.now)) table.old head.old }
-    ensures { Woven (parts_in (far space.now) maximum (ratio space.now))
+    requires room { Enough (parts_in (S.far space.now) maximum (S.ratio space.now)) table.old head.old }
+    ensures { Woven (parts_in (S.far space.now) maximum (S.ratio space.now))
         table.old head.old table.new head.new }
 {
     let edit = head.newest + 1;
@@ -88,8 +88,8 @@ fn weave_pairs<S: Space>(table: &mut [Record], head: &mut Head, space: &S, maxim
 pub(crate) fn weave<S: Space>(table: &mut [Record], head: &mut Head, space: &S, maximum: f64)
     requires checked { Checked table.old head.old }
     requires left { head.old.newest < last_edit }
-    requires room { Enough (parts_in (far space.now) maximum (ratio space.now)) table.old head.old }
-    ensures { Woven (parts_in (far space.now) maximum (ratio space.now))
+    requires room { Enough (parts_in (S.far space.now) maximum (S.ratio space.now)) table.old head.old }
+    ensures { Woven (parts_in (S.far space.now) maximum (S.ratio space.now))
         table.old head.old table.new head.new }
 {
     if head.count == 0 {

@@ -12,9 +12,9 @@ use Rattle.measures.proofs.pairs.ask.Given as given
 use Rattle.measures.proofs.pairs.ask.Goals as goal
 use Rattle.measures.proofs.pairs.ask.Goals.{In-Some-current}
 
-pub returns-in-default : goal.returns-in-default
-returns-in-default g c =
-    let found = c.in-default.ensures in
+pub returns-in_default : goal.returns-in_default
+returns-in_default g c =
+    let found = c.in_default.ensures in
     let first = c.rewind.ensures.first in
     let same = c.rewind.ensures.same in
     let none : slice_get (g.L.CoordsIter.coords c.args.line.now) 0 ≡ None = cc in
@@ -57,20 +57,20 @@ module _ (g : given.Over) (c : In-Some-current g) where
   given_line : g.L.CoordsIter.coords c.advance.new.self ≡ g.L.CoordsIter.coords c.args.line.now
   given_line = c.advance.ensures.same ∙ c.rewind.ensures.same
 
-pub returns-in-err-at-place : goal.returns-in-err-at-place
-returns-in-err-at-place g c =
-    let s = (goal.at.returns-in-err-at-place g c).In-Some-current in
+pub returns-in_err-at_place : goal.returns-in_err-at_place
+returns-in_err-at_place g c =
+    let s = (goal.at.returns-in_err-at_place g c).In-Some-current in
     let far : Point → Point → Result Float Fault = g.S.Space.far c.args.space.now in
     let ratio : Point → Point → Float → Result Point Fault =
     g.S.Space.ratio c.args.space.now in
     let ps : List Point = g.L.CoordsIter.coords c.advance.new.self in
-    let exit = err_from_is_err_and c.from-residual.result c.from-residual.ensures.1 in
-    let f = c.in-err-at-place.field-0.0 in
+    let exit = err_from_is_err_and c.from_residual.result c.from_residual.ensures.1 in
+    let f = c.in_err-at_place.field-0.0 in
     let why : at_place (told (points_between far ratio c.args.layer c.args.maximum c.loop-end.start
     c.in-Some-current.end)) c.loop-end.pair
     ≡ Err f =
-    ap (λ r. at_place r c.loop-end.pair) (sym c.ask-pair.ensures) ∙ sym c.at-place.ensures
-    ∙ c.in-err-at-place.was in
+    ap (λ r. at_place r c.loop-end.pair) (sym c.ask_pair.ensures) ∙ sym c.at_place.ensures
+    ∙ c.in_err-at_place.was in
     let stops = asked_stops far ratio c.args.layer c.args.maximum ps c.loop-end.pair
     c.loop-end.start
     c.in-Some-current.end (here g s) f why in
@@ -83,9 +83,9 @@ returns-in-err-at-place g c =
 pub loop-end-smaller : goal.loop-end-smaller
 loop-end-smaller g c = let h = inside g (goal.at.loop-end-smaller g c).In-Some-current in omega arith
 
-pub overflow-add-pair : goal.overflow-add-pair
-overflow-add-pair g c =
-    let s = (goal.at.overflow-add-pair g c).In-Some-current in
+pub overflow_add-pair : goal.overflow_add-pair
+overflow_add-pair g c =
+    let s = (goal.at.overflow_add-pair g c).In-Some-current in
     omega (arith, inside g s, ap length (given_line g s), c.requires)
 
 pub loop-end-preserved : goal.loop-end-preserved
@@ -99,8 +99,8 @@ loop-end-preserved g c =
     let ok : at_place (told (points_between far ratio c.args.layer c.args.maximum c.loop-end.start
     c.in-Some-current.end)) c.loop-end.pair
     ≡ Ok tt =
-    ap (λ r. at_place r c.loop-end.pair) (sym c.ask-pair.ensures) ∙ sym c.at-place.ensures
-    ∙ c.in-ok-at-place.was in (
+    ap (λ r. at_place r c.loop-end.pair) (sym c.ask_pair.ensures) ∙ sym c.at_place.ensures
+    ∙ c.in_ok-at_place.was in (
       c.advance-in-Some-current.ensures.same ∙ c.loop-end.invariant.0,
       c.advance-in-Some-current.ensures.next ∙ step_inside _ _ _ _ c.loop-end.invariant.0
           c.loop-end.invariant.1 h,
@@ -117,7 +117,7 @@ returns g c =
     let ratio : Point → Point → Float → Result Point Fault =
     g.S.Space.ratio c.args.space.now in
     let ps : List Point = g.L.CoordsIter.coords c.advance.new.self in
-    let found = c.in-default-current.ensures in
+    let found = c.in_default-current.ensures in
     let none : slice_get (g.L.CoordsIter.coords c.advance.new.self) c.loop-end.pair ≡ None = cc in
     let same = c.advance.ensures.same ∙ c.rewind.ensures.same in
     record {

@@ -12,9 +12,9 @@ use Rattle.measures.proofs.pairs.measure.Given as given
 use Rattle.measures.proofs.pairs.measure.Goals as goal
 use Rattle.measures.proofs.pairs.measure.Goals.{In-Some-current}
 
-pub returns-in-default : goal.returns-in-default
-returns-in-default g c =
-    let found = c.in-default.ensures in
+pub returns-in_default : goal.returns-in_default
+returns-in_default g c =
+    let found = c.in_default.ensures in
     let first = c.rewind.ensures.first in
     let same = c.rewind.ensures.same in
     let none : slice_get (g.L.CoordsIter.coords c.args.line.now) 0 ≡ None = cc in
@@ -54,17 +54,17 @@ module _ (g : given.Over) (c : In-Some-current g) where
   given_line : g.L.CoordsIter.coords c.advance.new.self ≡ g.L.CoordsIter.coords c.args.line.now
   given_line = c.advance.ensures.same ∙ c.rewind.ensures.same
 
-pub returns-in-err-pieces : goal.returns-in-err-pieces
-returns-in-err-pieces g c =
-    let s = (goal.at.returns-in-err-pieces g c).In-Some-current in
+pub returns-in_err-pieces : goal.returns-in_err-pieces
+returns-in_err-pieces g c =
+    let s = (goal.at.returns-in_err-pieces g c).In-Some-current in
     let far : Point → Point → Result Float Fault = g.S.Space.far c.args.space.now in
     let ps : List Point = g.L.CoordsIter.coords c.advance.new.self in
-    let exit = err_from_is_err_and c.from-residual.result c.from-residual.ensures.1 in
-    let f = c.in-err-pieces.field-0.0 in
+    let exit = err_from_is_err_and c.from_residual.result c.from_residual.ensures.1 in
+    let f = c.in_err-pieces.field-0.0 in
     let why : at_place (pieces_between far c.args.layer c.args.maximum c.loop-end.start
     c.in-Some-current.end) c.loop-end.pair ≡ Err f =
-    ap (λ r. at_place r c.loop-end.pair) (sym c.pieces-between.ensures) ∙ sym c.at-place.ensures
-    ∙ c.in-err-pieces.was in
+    ap (λ r. at_place r c.loop-end.pair) (sym c.pieces_between.ensures) ∙ sym c.at_place.ensures
+    ∙ c.in_err-pieces.was in
     let stops = taken_stops far c.args.layer c.args.maximum ps c.loop-end.pair
     c.loop-end.count c.loop-end.start
     c.in-Some-current.end (here g s) f why in
@@ -77,9 +77,9 @@ returns-in-err-pieces g c =
 pub loop-end-smaller : goal.loop-end-smaller
 loop-end-smaller g c = let h = inside g (goal.at.loop-end-smaller g c).In-Some-current in omega arith
 
-pub overflow-add-pair : goal.overflow-add-pair
-overflow-add-pair g c =
-    let s = (goal.at.overflow-add-pair g c).In-Some-current in
+pub overflow_add-pair : goal.overflow_add-pair
+overflow_add-pair g c =
+    let s = (goal.at.overflow_add-pair g c).In-Some-current in
     omega (arith, inside g s, ap length (given_line g s), c.requires)
 
 pub loop-end-preserved : goal.loop-end-preserved
@@ -89,19 +89,19 @@ loop-end-preserved g c =
     let ps : List Point = g.L.CoordsIter.coords c.advance.new.self in
     let h = inside g s in
     let ok : at_place (pieces_between far c.args.layer c.args.maximum c.loop-end.start
-    c.in-Some-current.end) c.loop-end.pair ≡ Ok c.in-ok-pieces.pieces =
-    ap (λ r. at_place r c.loop-end.pair) (sym c.pieces-between.ensures) ∙ sym c.at-place.ensures
-    ∙ c.in-ok-pieces.was in (
+    c.in-Some-current.end) c.loop-end.pair ≡ Ok c.in_ok-pieces.pieces =
+    ap (λ r. at_place r c.loop-end.pair) (sym c.pieces_between.ensures) ∙ sym c.at_place.ensures
+    ∙ c.in_ok-pieces.was in (
       c.advance-in-Some-current.ensures.same ∙ c.loop-end.invariant.0,
       c.advance-in-Some-current.ensures.next ∙ step_inside _ _ _ _ c.loop-end.invariant.0
           c.loop-end.invariant.1 h,
       omega arith,
       ap (λ v. taken_from far c.args.layer c.args.maximum (c.loop-end.pair + 1)
           (c.loop-end.count + v) c.in-Some-current.end
-          (drop (c.loop-end.pair + 1) ps)) c.points-within.ensures
+          (drop (c.loop-end.pair + 1) ps)) c.points_within.ensures
           ∙ sym (taken_more far c.args.layer c.args.maximum ps c.loop-end.pair
           c.loop-end.count c.loop-end.start
-          c.in-Some-current.end (here g s) c.in-ok-pieces.pieces ok)
+          c.in-Some-current.end (here g s) c.in_ok-pieces.pieces ok)
           ∙ c.loop-end.invariant.3,
       search rules,
     )
@@ -110,7 +110,7 @@ pub returns : goal.returns
 returns g c =
     let far : Point → Point → Result Float Fault = g.S.Space.far c.args.space.now in
     let ps : List Point = g.L.CoordsIter.coords c.advance.new.self in
-    let found = c.in-default-current.ensures in
+    let found = c.in_default-current.ensures in
     let none : slice_get (g.L.CoordsIter.coords c.advance.new.self) c.loop-end.pair ≡ None = cc in
     let same = c.advance.ensures.same ∙ c.rewind.ensures.same in
     record {

@@ -12,12 +12,12 @@ none = record { x = nan; y = nan }
 
 pub loop-i-preserved : goal.loop-i-preserved
 loop-i-preserved c =
-    let finite = sym c.if-not-is-finite.ensures in
+    let finite = sym c.if-not-is_finite.ensures in
     sym (unfit_more c.args.points.now c.loop-i.i none (omega arith) finite) ∙ c.loop-i.invariant
 
-pub returns-then-not-is-finite : goal.returns-then-not-is-finite
-returns-then-not-is-finite c =
-    let unfit = sym c.if-not-is-finite.ensures in
+pub returns-then-not-is_finite : goal.returns-then-not-is_finite
+returns-then-not-is_finite c =
+    let unfit = sym c.if-not-is_finite.ensures in
     let here =
     sym (unfit_here c.args.points.now c.loop-i.i none (omega arith) unfit) ∙ c.loop-i.invariant in
     let fault = c.at.ensures ∙ ap (placed (c.loop-i.i + 1)) c.new.ensures in

@@ -13,7 +13,7 @@ none = record { x = nan; y = nan }
 pub loop-point-init : goal.loop-point-init
 loop-point-init c =
     appending.append_start c.args.table.now c.args.head.now c.args.points.now _
-    c.requires.checked.whole c.requires.room c.line-end-before.ensures
+    c.requires.checked.whole c.requires.room c.line_end-before.ensures
 
 pub insert-requires : goal.insert-requires
 insert-requires c =

@@ -8,16 +8,16 @@ use Rattle.table.proofs.append.line_end.Goals as goal
 pub loop-k-init : goal.loop-k-init
 loop-k-init c = simp sub-zero (c.requires.whole.line, refl)
 
-pub record-at-here-requires : goal.record-at-here-requires
-record-at-here-requires c = (unlink c.args.table.now _ _ _ _ _ (omega arith) c.loop-k.invariant.0).1
+pub record_at-here-requires : goal.record_at-here-requires
+record_at-here-requires c = (unlink c.args.table.now _ _ _ _ _ (omega arith) c.loop-k.invariant.0).1
 
 pub loop-k-preserved : goal.loop-k-preserved
 loop-k-preserved c =
     let t = c.args.table.now in
     let h = c.args.head.now in
-    let k = c.loop-k.-k in
+    let k = c.loop-k._k in
     let here = c.loop-k.here in
-    let nx = ap (λ r. r.next) c.record-at-here.ensures in
+    let nx = ap (λ r. r.next) c.record_at-here.ensures in
     let lt : k < h.count = omega arith in
     let chain = (unlink t 0 h.newest h.count k here lt c.loop-k.invariant.0).4 in
     let last = sym (last_more t h.count k here c.loop-k.before lt) ∙ c.loop-k.invariant.1 in (
@@ -27,5 +27,5 @@ loop-k-preserved c =
 
 pub returns : goal.returns
 returns c =
-    sym (last_none c.args.table.now _ c.loop-k.-k c.loop-k.here _ (omega arith))
+    sym (last_none c.args.table.now _ c.loop-k._k c.loop-k.here _ (omega arith))
     ∙ c.loop-k.invariant.1

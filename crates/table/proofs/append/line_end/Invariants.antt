@@ -6,6 +6,6 @@ use Rattle.table.proofs.append.line_end.Given as goal
 
 abbrev pub invariant-loop-k : goal.invariant-loop-k
 invariant-loop-k l =
-    Chained l.table 0 l.head.newest (l.count - l.-k) l.here
-    × (last_index l.before (nodes l.table (l.count - l.-k) l.here)
+    Chained l.table 0 l.head.newest (l.count - l._k) l.here
+    × (last_index l.before (nodes l.table (l.count - l._k) l.here)
     ≡ last_index 0 (line_of l.table l.head))

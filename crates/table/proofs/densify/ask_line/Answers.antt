@@ -18,9 +18,9 @@ returns g c =
     let ratio : Point → Point → Float → Result Point Fault = g.S.Space.ratio c.args.space.now in
     let most = c.args.maximum in
     let long = line_count t h in
-    c.ask-densified.ensures.points
-    ∙ (ap (λ (ps : List Point). told (densified_by far ratio Table most c.free-count-room.result ps))
+    c.ask_densified.ensures.points
+    ∙ (ap (λ (ps : List Point). told (densified_by far ratio Table most c.free_count-room.result ps))
     (c.new-line.ensures.kept c.requires)
-    ∙ (ap (λ (n : ℕ). told (densified_by far ratio Table most n (kept_line t h))) c.free-count-room.ensures
+    ∙ (ap (λ (n : ℕ). told (densified_by far ratio Table most n (kept_line t h))) c.free_count-room.ensures
     ∙ ap told (fitting far ratio most (free_count t h) (kept_line t h)
     (omega (arith, c.requires.whole.fits, c.requires.sized.most)))))

@@ -11,7 +11,7 @@ weave-requires g c =
     let far = g.S.Space.far c.args.space.now in
     let ratio = g.S.Space.ratio c.args.space.now in
     let u = told_ok (outcome far ratio c.args.maximum t h)
-    (sym c.ask-all.ensures ∙ c.in-ok-ask-all.was) in
+    (sym c.ask_all.ensures ∙ c.in_ok-ask_all.was) in
     let a = accepted far ratio c.args.maximum t h u.0 u.1 in
     record { checked = c.requires; left = a.left; room = a.room }
 
@@ -22,7 +22,7 @@ returns g c =
     let far = g.S.Space.far c.args.space.now in
     let ratio = g.S.Space.ratio c.args.space.now in
     let u = told_ok (outcome far ratio c.args.maximum t h)
-    (sym c.ask-all.ensures ∙ c.in-ok-ask-all.was) in
+    (sym c.ask_all.ensures ∙ c.in_ok-ask_all.was) in
     let a = accepted far ratio c.args.maximum t h u.0 u.1 in
     let line = line_is far ratio c.args.maximum t h u.0 a c.weave.new.table c.weave.new.head
     c.weave.ensures c.requires.whole in

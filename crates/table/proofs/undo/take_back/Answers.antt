@@ -2,14 +2,14 @@ use Rattle.std.proofs.Common.{sym, ap, ◌∙◌, arith, eqb-true}
 use borrow.Author.Tests.{eqb-false}
 use Rattle.table.proofs.Undoing as undoing
 use Rattle.table.proofs.undo.take_back.Goals as goal
-use Rattle.table.proofs.undo.take_back.Goals.{then-is-newest, else-is-newest}
+use Rattle.table.proofs.undo.take_back.Goals.{then-is_newest, else-is_newest}
 
 pub loop-k-init : goal.loop-k-init
 loop-k-init c =
     undoing.undo_start c.args.table.now c.args.head.now _ (omega arith) c.requires.checked.whole
 
-pub record-at-record-requires : goal.record-at-record-requires
-record-at-record-requires c =
+pub record_at-record-requires : goal.record_at-record-requires
+record_at-record-requires c =
     (undoing.undo_inside c.args.table.now c.args.head.now _ _ _ _ _ c.loop-k.invariant (omega arith)).0
 
 pub release-requires : goal.release-requires
@@ -27,17 +27,17 @@ pub loop-k-preserved : goal.loop-k-preserved
 loop-k-preserved c =
     let t0 = c.args.table.now in
     let h0 = c.args.head.now in
-    let nx = ap (λ r. r.next) c.record-at-record.ensures in
-    let ed = ap (λ r. r.edit) c.record-at-record.ensures in
-    elim c.if-is-newest.branch [
-      | then-is-newest w ↦
-          let is = eqb-true _ _ (sym w.if-is-newest.ensures) in
+    let nx = ap (λ r. r.next) c.record_at-record.ensures in
+    let ed = ap (λ r. r.edit) c.record_at-record.ensures in
+    elim c.if-is_newest.branch [
+      | then-is_newest w ↦
+          let is = eqb-true _ _ (sym w.if-is_newest.ensures) in
           undoing.undo_at t0 h0 _ _ _ _ _
           (undoing.undo_drop t0 h0 _ _ _ _ _ c.loop-k.invariant (omega arith) (sym ed ∙ is))
           _ _ _ _ _ (w.table-is ∙ w.release.ensures.table) (w.head-is ∙ w.release.ensures.head)
           w.before-is nx (omega arith)
-      | else-is-newest w ↦
-          let not = eqb-false _ _ (sym w.if-is-newest.ensures) in
+      | else-is_newest w ↦
+          let not = eqb-false _ _ (sym w.if-is_newest.ensures) in
           undoing.undo_at t0 h0 _ _ _ _ _
           (undoing.undo_keep t0 h0 _ _ _ _ _ c.loop-k.invariant (omega arith) (λ q. not (ed ∙ q)))
           _ _ _ _ _ w.table-is w.head-is w.before-is nx (omega arith)

@@ -5,7 +5,7 @@ use Rattle.table.proofs.whole.ends_after.Given as goal
 -- the chain left to follow is right just where the whole chain is
 abbrev pub invariant-loop-k : goal.invariant-loop-k
 invariant-loop-k l =
-    (Chained l.table l.least l.most (l.n - l.-k) l.index
+    (Chained l.table l.least l.most (l.n - l._k) l.index
     → Chained l.table l.least l.most l.n l.start)
     × (Chained l.table l.least l.most l.n l.start
-    → Chained l.table l.least l.most (l.n - l.-k) l.index)
+    → Chained l.table l.least l.most (l.n - l._k) l.index)
