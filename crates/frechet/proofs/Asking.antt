@@ -1,5 +1,5 @@
 -- What a row that was not refused beforehand tells, and where it stands in the cells.
-use Rattle.std.proofs.Common.{◌≡◌, ℕ, ◌+◌, ◌*◌, ◌/◌, ◌%◌, ◌<◌, ◌≤◌, min, max, Bool, true, false, cond, eqb, ltb, leb, List, [], length, take, drop, Some, None, Ok, Err, Option, Result, sym, refl, ap, ◌∙◌, inl, inr, ⊎_elim, arith, ltb-true, leb-true}
+use Rattle.std.proofs.Common.{◌≡◌, ℕ, ◌+◌, ◌*◌, ◌/◌, ◌%◌, ◌<◌, ◌≤◌, min, max, Bool, true, false, cond, eqb, ltb, leb, List, [], length, take, drop, None, Ok, Err, Option, Result, sym, refl, ap, ◌∙◌, inl, inr, ⊎_elim, arith, ltb-true, leb-true}
 use lib.Ieee.{Float}
 use Rattle.std.proofs.lemmas.List.{drop-take, take-take}
 use Rattle.std.proofs.lemmas.Bool.{cases_Bool, cases_lt, leb-false}
@@ -11,7 +11,7 @@ use Rattle.points.specs.declared.point.Point.{Point}
 use Rattle.points.specs.Faults.{in_layer}
 use Rattle.frechet.specs.Next.{row_count, row_allowed, row_of_lines, row_in_cells, row_unless, next_row}
 use Rattle.frechet.specs.Row.{row_start, row_before, written}
-use Rattle.frechet.specs.Table.{Rows, longer, shorter, room_for}
+use Rattle.frechet.specs.Table.{longer, shorter}
 use Rattle.frechet.proofs.Filling.{unread, length_row}
 use Rattle.frechet.proofs.Halves.{half_room}
 

@@ -1,8 +1,8 @@
 -- The theorem: an answer is the least over all couplings, and nearness passes on.
-use Rattle.std.proofs.Common.{◌≡◌, ℕ, suc, ◌<◌, Bool, true, false, cond, T, leb, ◌⊎◌, List, [], ◌∷◌, length, get_or, pos, Ok, Err, Result, sym, refl, ap, ◌∙◌, subst, inl, inr, zero-lt-suc, arith}
+use Rattle.std.proofs.Common.{◌≡◌, ℕ, suc, ◌<◌, Bool, true, false, cond, T, leb, List, [], ◌∷◌, length, get_or, pos, Ok, Err, Result, sym, ap, ◌∙◌, subst, inl, inr, zero-lt-suc, arith}
 use lib.Ieee.{Float, lt, le, fin}
-use Rattle.couplings.specs.Coupling.{Pair, IsCoupling, Among, Each, Some}
-use Rattle.couplings.specs.Nearness.{Measure, answers, AtMost, apart_in, Near, Measured, Mutual as MutualIn}
+use Rattle.couplings.specs.Coupling.{Pair, IsCoupling, Among, Some}
+use Rattle.couplings.specs.Nearness.{Measure, apart_in, Near, Measured, Mutual as MutualIn}
 use Rattle.couplings.proofs.Bound.{coupling_bound, answer_found}
 use Rattle.couplings.proofs.Nearness.{nearness_passes, near_flips}
 use Rattle.couplings.proofs.Pairs.{each_in}
@@ -10,7 +10,7 @@ use Rattle.points.specs.declared.fault.Fault.{Fault}
 use Rattle.points.specs.declared.point.Point.{Point}
 use Rattle.spaces.specs.Space.{Measures}
 use Rattle.frechet.specs.Table.{longer, shorter, frechet}
-use Rattle.frechet.specs.Theorem.{nowhere, NoMore, NoLess, apart, Coupled, LeastOverCouplings, Answers, Mutual, NearnessPasses}
+use Rattle.frechet.specs.Theorem.{nowhere, NoMore, NoLess, Coupled, LeastOverCouplings, Answers, Mutual, NearnessPasses}
 use Rattle.frechet.proofs.Order.{measured, floats_ordered, le_any}
 use Rattle.frechet.proofs.Values.{value_of, value_measured}
 use Rattle.frechet.proofs.Told.{Told, told, longer_some, shorter_some}

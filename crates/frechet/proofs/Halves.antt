@@ -1,12 +1,12 @@
 -- One row after another in the two halves of a buffer.
-use Rattle.std.proofs.Common.{◌≡◌, ℕ, suc, ◌+◌, ◌*◌, ◌%◌, ◌<◌, ◌≤◌, false, cond, eqb, List, [], ◌∷◌, ◌++◌, length, take, drop, Some, None, Ok, Err, Option, Result, sym, refl, ap, ◌∙◌, subst, ⊎_elim, arith}
+use Rattle.std.proofs.Common.{◌≡◌, ℕ, suc, ◌+◌, ◌*◌, ◌%◌, ◌≤◌, false, cond, eqb, List, [], ◌∷◌, length, take, drop, Some, Ok, Err, Option, Result, refl, ap, ◌∙◌, ⊎_elim, arith}
 use lib.Ieee.{Float}
 use Rattle.std.specs.List.{slice_get}
-use Rattle.std.proofs.lemmas.List.{take_at, drop_at, drop_all, length-take-le}
+use Rattle.std.proofs.lemmas.List.{take_at, drop_at, length-take-le}
 use Rattle.std.proofs.lemmas.Bool.{ne_eqb, cases_lt}
 use Rattle.points.specs.declared.fault.Fault.{Fault}
 use Rattle.points.specs.declared.point.Point.{Point}
-use Rattle.frechet.specs.Row.{Run, cell_of, cell_then, cell_and, last_from, row_from, row_of, row_start, row_before, over, written}
+use Rattle.frechet.specs.Row.{Run, cell_of, cell_then, cell_and, last_from, row_from, row_start, row_before, over, written}
 
 -- a row that was not stopped has a cell for each point, and answers its last
 pub record Whole (qs : List Point) (left : Option Float) (l : Option Float) (run : Run) : Type 0 where

@@ -1,5 +1,5 @@
 -- What an answer tells: each distance was answered, and the answer is that of the table of values.
-use Rattle.std.proofs.Common.{◌≡◌, ℕ, zero, suc, ◌+◌, ◌<◌, min, Bool, true, false, cond, eqb, leb, List, [], ◌∷◌, length, get_or, Some, None, Ok, Err, Option, Result, sym, refl, ap, ◌∙◌, subst, inl, inr, arith}
+use Rattle.std.proofs.Common.{◌≡◌, ℕ, zero, suc, ◌+◌, ◌<◌, min, Bool, true, false, cond, eqb, leb, List, [], ◌∷◌, length, get_or, Some, None, Ok, Err, Option, Result, sym, refl, ap, ◌∙◌, arith}
 use lib.Ieee.{Float, lt}
 use Rattle.std.proofs.lemmas.Bool.{ne_eqb}
 use Rattle.couplings.specs.Rows.{row, rows, larger, answer}
@@ -10,7 +10,7 @@ use Rattle.points.specs.declared.point.Point.{Point}
 use Rattle.points.specs.Faults.{in_layer}
 use Rattle.points.specs.Rounded.{zero64}
 use Rattle.frechet.specs.Row.{row_of, row_start, written, last_from}
-use Rattle.frechet.specs.Table.{Rows, Compared, row_then, rows_from, answer_of, tabled, allowed, unless, longer, shorter, frechet}
+use Rattle.frechet.specs.Table.{Compared, row_then, rows_from, answer_of, tabled, allowed, unless, longer, shorter, frechet}
 use Rattle.frechet.specs.Theorem.{nowhere}
 use Rattle.frechet.proofs.Halves.{row_whole}
 use Rattle.frechet.proofs.Values.{value_of, row_values, row_asked, last_some, last_is}

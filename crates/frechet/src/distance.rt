@@ -50,10 +50,10 @@ fn table<S: Space, L: CoordsIter, M: CoordsIter>(
         longer.old }
     ensures shorter { M.CoordsIter.coords shorter.new ≡ M.CoordsIter.coords
         shorter.old }
-    ensures cells { cells.new ≡ (tabled (far space.now)
+    ensures cells { cells.new ≡ (tabled (S.far space.now)
         (L.CoordsIter.coords longer.old) (M.CoordsIter.coords shorter.old)
         cells.old).cells }
-    ensures result { result ≡ (tabled (far space.now) (L.CoordsIter.coords longer.old)
+    ensures result { result ≡ (tabled (S.far space.now) (L.CoordsIter.coords longer.old)
         (M.CoordsIter.coords shorter.old) cells.old).result }
 {
     let last = rows(cells, longer, shorter, space);
@@ -71,10 +71,10 @@ fn compare<S: Space, A: CoordsIter, B: CoordsIter>(
         ls_1.old }
     ensures second { B.CoordsIter.coords ls_2.new ≡ B.CoordsIter.coords
         ls_2.old }
-    ensures cells { cells.new ≡ (frechet (far space.now)
+    ensures cells { cells.new ≡ (frechet (S.far space.now)
         (A.CoordsIter.coords ls_1.old) (B.CoordsIter.coords ls_2.old)
         cells.old).cells }
-    ensures result { result ≡ (frechet (far space.now) (A.CoordsIter.coords ls_1.old)
+    ensures result { result ≡ (frechet (S.far space.now) (A.CoordsIter.coords ls_1.old)
         (B.CoordsIter.coords ls_2.old) cells.old).result }
 {
     in_layer(allow(ls_1, ls_2, cells.len()), Layer::Line)?;
@@ -102,17 +102,17 @@ pub fn frechet_distance<S: Space, A: CoordsIter, B: CoordsIter>(
         ls_1.old }
     ensures second { B.CoordsIter.coords ls_2.new ≡ B.CoordsIter.coords
         ls_2.old }
-    ensures cells { cells.new ≡ (frechet (far space.now)
+    ensures cells { cells.new ≡ (frechet (S.far space.now)
         (A.CoordsIter.coords ls_1.old) (B.CoordsIter.coords ls_2.old)
         cells.old).cells }
-    ensures result { result ≡ (frechet (far space.now) (A.CoordsIter.coords ls_1.old)
+    ensures result { result ≡ (frechet (S.far space.now) (A.CoordsIter.coords ls_1.old)
         (B.CoordsIter.coords ls_2.old) cells.old).result }
-    ensures fresh { WhateverCellsHeld (far space.now)
+    ensures fresh { WhateverCellsHeld (S.far space.now)
         (A.CoordsIter.coords ls_1.old) (B.CoordsIter.coords ls_2.old)
         cells.old result }
-    ensures couplings { LeastOverCouplings (far space.now)
+    ensures couplings { LeastOverCouplings (S.far space.now)
         (A.CoordsIter.coords ls_1.old) (B.CoordsIter.coords ls_2.old) result }
-    ensures nearness { NearnessPasses (far space.now) }
+    ensures nearness { NearnessPasses (S.far space.now) }
 {
     compare(space, ls_1, ls_2, cells)
 }

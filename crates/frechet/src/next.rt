@@ -36,8 +36,8 @@ fn allow_row(k: usize, count_1: usize, count_2: usize, cells: usize) -> Result<(
 
 // The point at place k, if there is one.
 fn seek<L: CoordsIter>(line: &mut L, k: usize) -> Option<Point>
-    ensures line { coords line.new ≡ coords line.old }
-    ensures found { result ≡ slice_get (coords line.old) k }
+    ensures line { L.coords line.new ≡ L.coords line.old }
+    ensures found { result ≡ slice_get (L.coords line.old) k }
 {
     line.rewind();
     for _i in 0..k {
@@ -62,11 +62,11 @@ fn row_at<S: Space, L: CoordsIter, M: CoordsIter>(
         shorter.old }
     ensures cells { cells.new
         ≡ written (row_start k (length (M.CoordsIter.coords shorter.old)))
-        (row_of (far space.now (slice_index_or (L.CoordsIter.coords longer.old) k nowhere))
+        (row_of (S.far space.now (slice_index_or (L.CoordsIter.coords longer.old) k nowhere))
         (row_before k (length (M.CoordsIter.coords shorter.old)) cells.old)
         (M.CoordsIter.coords shorter.old)).cells cells.old }
     ensures outcome { result
-        ≡ (row_of (far space.now (slice_index_or (L.CoordsIter.coords longer.old) k nowhere))
+        ≡ (row_of (S.far space.now (slice_index_or (L.CoordsIter.coords longer.old) k nowhere))
         (row_before k (length (M.CoordsIter.coords shorter.old)) cells.old)
         (M.CoordsIter.coords shorter.old)).outcome }
 {
@@ -90,10 +90,10 @@ pub fn next_row<S: Space, A: CoordsIter, B: CoordsIter>(
         ls_1.old }
     ensures second { B.CoordsIter.coords ls_2.new ≡ B.CoordsIter.coords
         ls_2.old }
-    ensures cells { cells.new ≡ (next_row (far space.now) layer k
+    ensures cells { cells.new ≡ (next_row (S.far space.now) layer k
         (A.CoordsIter.coords ls_1.old) (B.CoordsIter.coords ls_2.old)
         cells.old).cells }
-    ensures last { result ≡ (next_row (far space.now) layer k
+    ensures last { result ≡ (next_row (S.far space.now) layer k
         (A.CoordsIter.coords ls_1.old) (B.CoordsIter.coords ls_2.old)
         cells.old).last }
 {

@@ -19,13 +19,13 @@ fn fill<S: Space, L: CoordsIter>(
     shorter: &mut L,
     space: &S,
 ) -> Result<Option<f64>, Fault>
-    requires { Apart this other count (length (coords shorter.old)) (length cells.old) }
-    ensures line { coords shorter.new ≡ coords shorter.old }
+    requires { Apart this other count (length (L.coords shorter.old)) (length cells.old) }
+    ensures line { L.coords shorter.new ≡ L.coords shorter.old }
     ensures cells { cells.new ≡ written this
-        (row_of (far space.now p) (take count (drop other cells.old))
-        (coords shorter.old)).cells cells.old }
-    ensures outcome { result ≡ (row_of (far space.now p)
-        (take count (drop other cells.old)) (coords shorter.old)).outcome }
+        (row_of (S.far space.now p) (take count (drop other cells.old))
+        (L.coords shorter.old)).cells cells.old }
+    ensures outcome { result ≡ (row_of (S.far space.now p)
+        (take count (drop other cells.old)) (L.coords shorter.old)).outcome }
 {
     shorter.rewind();
     let mut j = 0;
@@ -52,14 +52,14 @@ pub(crate) fn row<S: Space, L: CoordsIter>(
     shorter: &mut L,
     space: &S,
 ) -> Result<Option<f64>, Fault>
-    requires { 2 * length (coords shorter.old) ≤ length cells.old }
-    ensures line { coords shorter.new ≡ coords shorter.old }
-    ensures cells { cells.new ≡ written (row_start k (length (coords shorter.old)))
-        (row_of (far space.now p) (row_before k (length (coords shorter.old))
-        cells.old) (coords shorter.old)).cells cells.old }
-    ensures outcome { result ≡ (row_of (far space.now p)
-        (row_before k (length (coords shorter.old)) cells.old)
-        (coords shorter.old)).outcome }
+    requires { 2 * length (L.coords shorter.old) ≤ length cells.old }
+    ensures line { L.coords shorter.new ≡ L.coords shorter.old }
+    ensures cells { cells.new ≡ written (row_start k (length (L.coords shorter.old)))
+        (row_of (S.far space.now p) (row_before k (length (L.coords shorter.old))
+        cells.old) (L.coords shorter.old)).cells cells.old }
+    ensures outcome { result ≡ (row_of (S.far space.now p)
+        (row_before k (length (L.coords shorter.old)) cells.old)
+        (L.coords shorter.old)).outcome }
 {
     let s = shorter.coords_count();
     if k == 0 {

@@ -20,10 +20,10 @@ pub(crate) fn rows<S: Space, L: CoordsIter, M: CoordsIter>(
         longer.old }
     ensures shorter { M.CoordsIter.coords shorter.new ≡ M.CoordsIter.coords
         shorter.old }
-    ensures cells { cells.new ≡ (rows_from (far space.now) 0 [] None
+    ensures cells { cells.new ≡ (rows_from (S.far space.now) 0 [] None
         (L.CoordsIter.coords longer.old) (M.CoordsIter.coords shorter.old)
         cells.old).cells }
-    ensures last { result ≡ (rows_from (far space.now) 0 [] None
+    ensures last { result ≡ (rows_from (S.far space.now) 0 [] None
         (L.CoordsIter.coords longer.old) (M.CoordsIter.coords shorter.old)
         cells.old).last }
 {

@@ -1,4 +1,3 @@
-use Rattle.std.proofs.Common.{rules}
 use Rattle.frechet.proofs.Filling.{nth_part, nth_part_past}
 use Rattle.frechet.proofs.cell.cell_at.Goals as goal
 

@@ -15,8 +15,8 @@ returns g c =
       second = c.compare.ensures.second;
       cells = c.compare.ensures.cells;
       result = c.compare.ensures.result;
-      fresh = λ held e. fresh far (g.A.CoordsIter.coords c.args.ls-1.now)
-          (g.B.CoordsIter.coords c.args.ls-2.now) c.args.cells.now held e
+      fresh = λ held e. fresh far (g.A.CoordsIter.coords c.args.ls_1.now)
+          (g.B.CoordsIter.coords c.args.ls_2.now) c.args.cells.now held e
           ∙ sym c.compare.ensures.result;
       couplings = least_over_couplings far ok law _ _ _ c.compare.result c.compare.ensures.result;
       nearness = nearness-passes-on far ok law;

@@ -35,14 +35,14 @@ module _ (g : given.Over) (c : In-Some g) where
       (length (g.L.CoordsIter.coords c.args.shorter.now))
       (omega (arith, inside, ap length c.rewind.ensures.same)) (omega (arith, c.requires.row)) c.requires.apart
 
-pub returns-in-err-distance : goal.returns-in-err-distance
-returns-in-err-distance g c =
-    let s = (goal.at.returns-in-err-distance g c).In-Some in
+pub returns-in_err-distance : goal.returns-in_err-distance
+returns-in_err-distance g c =
+    let s = (goal.at.returns-in_err-distance g c).In-Some in
     let far : Point → Result Float Fault = g.S.Space.far c.args.space.now c.args.p in
     let above : List Float = take c.args.count (drop c.args.other c.args.cells.now) in
-    let exit = err_from_is_err_and c.from-residual.result c.from-residual.ensures.1 in
+    let exit = err_from_is_err_and c.from_residual.result c.from_residual.ensures.1 in
     let why = placed_err c.distance.result (c.loop-q.j + 1) _
-    (sym c.at-place.ensures ∙ c.in-err-distance.was) in
+    (sym c.at_place.ensures ∙ c.in_err-distance.was) in
     let ends = stopped far above (g.L.CoordsIter.coords c.rewind.new.self) c.args.this
     c.args.cells.now
     c.loop-q.invariant.3 c.in-Some.q why.0 (here g s) (sym c.distance.ensures ∙ why.1) in
@@ -67,12 +67,12 @@ loop-q-preserved g c =
     let far : Point → Result Float Fault = g.S.Space.far c.args.space.now c.args.p in
     let above : List Float = take c.args.count (drop c.args.other c.args.cells.now) in
     let h = inside g s in
-    let ok = placed_ok c.distance.result (c.loop-q.j + 1) c.in-ok-distance.distance
-    (sym c.at-place.ensures ∙ c.in-ok-distance.was) in
-    let read = c.cell-at-up.ensures ∙ ap (λ l. slice_get l c.loop-q.j) (before g s) in
+    let ok = placed_ok c.distance.result (c.loop-q.j + 1) c.in_ok-distance.distance
+    (sym c.at_place.ensures ∙ c.in_ok-distance.was) in
+    let read = c.cell_at-up.ensures ∙ ap (λ l. slice_get l c.loop-q.j) (before g s) in
     let more = one_more far above (g.L.CoordsIter.coords c.rewind.new.self) c.args.this
     c.args.cells.now
-    c.loop-q.invariant.3 c.in-Some.q c.in-ok-distance.distance c.cell-at-up.result
+    c.loop-q.invariant.3 c.in-Some.q c.in_ok-distance.distance c.cell_at-up.result
     c.cell-value.result read c.cell-value.ensures (here g s) (sym c.distance.ensures ∙ ok)
     (room g s) in (
       c.advance.ensures.same ∙ c.loop-q.invariant.0,
@@ -83,7 +83,7 @@ loop-q-preserved g c =
 
 pub returns : goal.returns
 returns g c =
-    let told = c.in-default.ensures in
+    let told = c.in_default.ensures in
     let none : slice_get (g.L.CoordsIter.coords c.rewind.new.self) c.loop-q.j ≡ None = cc in
     let far : Point → Result Float Fault = g.S.Space.far c.args.space.now c.args.p in
     let above : List Float = take c.args.count (drop c.args.other c.args.cells.now) in

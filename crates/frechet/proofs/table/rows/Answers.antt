@@ -1,4 +1,4 @@
-use Rattle.std.proofs.Common.{◌≡◌, ℕ, ◌+◌, ◌*◌, ◌<◌, ◌≤◌, List, [], length, drop, Some, None, Ok, Err, Option, Result, sym, refl, ap, ◌∙◌, subst, arith}
+use Rattle.std.proofs.Common.{◌≡◌, ℕ, ◌+◌, ◌<◌, ◌≤◌, List, [], length, drop, Some, None, Ok, Err, Option, Result, sym, refl, ap, ◌∙◌, arith}
 use lib.Ieee.{Float}
 use Rattle.std.specs.List.{slice_get}
 use Rattle.std.proofs.lemmas.Result.{err_from_is_err_and}
@@ -27,26 +27,26 @@ module _ (g : given.Over) (c : In-Some g) where
 pub row-requires : goal.row-requires
 row-requires g c = omega (arith, ap length c.loop-p.invariant.1, c.requires, c.loop-p.auto.cells)
 
-pub returns-in-err-last : goal.returns-in-err-last
-returns-in-err-last g c =
+pub returns-in_err-last : goal.returns-in_err-last
+returns-in_err-last g c =
     let far : Point → Point → Result Float Fault = g.S.Space.far c.args.space.now in
     let ps : List Point = g.L.CoordsIter.coords c.rewind.new.self in
     let qs : List Point = g.M.CoordsIter.coords c.args.shorter.now in
     let k : ℕ = c.loop-p.k in
     let p : Point = c.in-Some.p in
     let xs : List Float = c.loop-p.cells in
-    let f = c.in-err-last.field-0.0 in
+    let f = c.in_err-last.field-0.0 in
     let same = c.loop-p.invariant.1 in
-    let exit = err_from_is_err_and c.from-residual.result c.from-residual.ensures.1 in
+    let exit = err_from_is_err_and c.from_residual.result c.from_residual.ensures.1 in
     let told = c.row.ensures in
     let out : (row_of (far p) (row_before k (length qs) xs) qs).outcome ≡ Err f =
-    sym (sym c.in-err-last.was ∙ told.outcome
+    sym (sym c.in_err-last.was ∙ told.outcome
     ∙ ap (λ q. (row_of (far p) (row_before k (length q) xs) q).outcome) same) in
     let cells = told.cells ∙ ap (λ q. written (row_start k (length q))
     (row_of (far p) (row_before k (length q) xs) q).cells xs) same in
     let stops = sym c.loop-p.invariant.4
     ∙ row_stops far ps qs k (row_before k (length qs) xs) c.loop-p.last xs p
-    (here g (goal.at.returns-in-err-last g c).In-Some) f out in
+    (here g (goal.at.returns-in_err-last g c).In-Some) f out in
     let all = ap (λ l. rows_from far 0 [] None l qs c.args.cells.now) (sym c.rewind.ensures.same)
     ∙ stops in
     record {
@@ -59,8 +59,8 @@ returns-in-err-last g c =
 pub loop-p-smaller : goal.loop-p-smaller
 loop-p-smaller g c = let h = inside g (goal.at.loop-p-smaller g c).In-Some in omega arith
 
-pub overflow-add-k : goal.overflow-add-k
-overflow-add-k g c = omega (arith, inside g (goal.at.overflow-add-k g c).In-Some, ap length c.rewind.ensures.same, c.requires)
+pub overflow_add-k : goal.overflow_add-k
+overflow_add-k g c = omega (arith, inside g (goal.at.overflow_add-k g c).In-Some, ap length c.rewind.ensures.same, c.requires)
 
 pub loop-p-preserved : goal.loop-p-preserved
 loop-p-preserved g c =
@@ -70,13 +70,13 @@ loop-p-preserved g c =
     let k : ℕ = c.loop-p.k in
     let p : Point = c.in-Some.p in
     let xs : List Float = c.loop-p.cells in
-    let l : Option Float = c.in-ok-last.last in
+    let l : Option Float = c.in_ok-last.last in
     let s = (goal.at.loop-p-preserved g c).In-Some in
     let same = c.loop-p.invariant.1 in
     let told = c.row.ensures in
     let above : List Float = row_before k (length qs) xs in
     let out : (row_of (far p) above qs).outcome ≡ Ok l =
-    sym (sym c.in-ok-last.was ∙ told.outcome
+    sym (sym c.in_ok-last.was ∙ told.outcome
     ∙ ap (λ q. (row_of (far p) (row_before k (length q) xs) q).outcome) same) in
     let cells : c.row.new.cells ≡ written (row_start k (length qs)) (row_of (far p) above qs).cells xs =
     told.cells ∙ ap (λ q. written (row_start k (length q))
@@ -100,7 +100,7 @@ returns g c =
     let far : Point → Point → Result Float Fault = g.S.Space.far c.args.space.now in
     let ps : List Point = g.L.CoordsIter.coords c.rewind.new.self in
     let qs : List Point = g.M.CoordsIter.coords c.args.shorter.now in
-    let told = c.in-default.ensures in
+    let told = c.in_default.ensures in
     let none : slice_get (g.L.CoordsIter.coords c.rewind.new.self) c.loop-p.k ≡ None = cc in
     let done = none_left far ps qs c.loop-p.k (row_before c.loop-p.k (length qs) c.loop-p.cells)
     c.loop-p.last
