@@ -26,7 +26,7 @@ fn point_text(heap: Global, p: Point) -> Result<String, AllocError>
 {
     let x = number_text(heap, p.x)?;
     let y = number_text(heap, p.y)?;
-    format!(heap, "{x} {y}")
+    format!(in heap; "{x} {y}")
 }
 
 // What is printed for a line that spells no question.
@@ -43,6 +43,6 @@ pub(crate) fn answer_text(heap: Global, answer: Answer) -> Result<String, AllocE
         Answer::Number(x) => number_text(heap, x),
         Answer::Point(p) => point_text(heap, p),
         Answer::NoAnswer => String::from_str(heap, "none"),
-        Answer::Refused(number) => format!(heap, "refused {number}"),
+        Answer::Refused(number) => format!(in heap; "refused {number}"),
     }
 }

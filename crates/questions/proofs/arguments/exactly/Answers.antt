@@ -5,10 +5,10 @@ use Rattle.questions.proofs.Counting.{words_count}
 use Rattle.questions.proofs.Held.{reads_none, reads_some}
 use Rattle.questions.proofs.arguments.exactly.Goals as goal
 
-pub returns-in-default : goal.returns-in-default
-returns-in-default c inside xs w =
+pub returns-in_default : goal.returns-in_default
+returns-in_default c inside xs w =
     reads_none c.args.text.now c.args.line.start c.args.line.end vec_items
-    (λ l ys. Words l c.args.name.now ys) _ c.in-default.is c.in-ok-v.ensures inside xs
+    (λ l ys. Words l c.args.name.now ys) _ c.in_default.is c.in_ok-v.ensures inside xs
     w.1
 
 pub returns-else-len-count : goal.returns-else-len-count
@@ -20,6 +20,6 @@ returns-else-len-count c inside xs w =
     let v = c.in-Some.v in
     let read =
     reads_some text start end vec_items (λ l ys. Words l name ys) _ v c.in-Some.is
-    c.in-ok-v.ensures in
+    c.in_ok-v.ensures in
     let same = words_count (part text start end) name xs (vec_items v) w.1 read.1 in
     c.if-len-count.false (omega (arith, same, w.0, c.len.ensures, c.in-Some.v.ok.0))

@@ -4,10 +4,10 @@ use Rattle.questions.specs.Spelling.{Words, coordinates}
 use Rattle.questions.proofs.Held.{reads_none, reads_some, points_read}
 use Rattle.questions.proofs.arguments.points_after.Goals as goal
 
-pub returns-in-default : goal.returns-in-default
-returns-in-default c inside ps w =
+pub returns-in_default : goal.returns-in_default
+returns-in_default c inside ps w =
     reads_none c.args.text.now c.args.line.start c.args.line.end vec_items
-    (λ l ys. Words l c.args.name.now ys) _ c.in-default.is c.in-ok-v.ensures inside
+    (λ l ys. Words l c.args.name.now ys) _ c.in_default.is c.in_ok-v.ensures inside
     (coordinates ps) w
 
 pub returns : goal.returns
@@ -18,7 +18,7 @@ returns c =
     let name = c.args.name.now in
     let read =
     reads_some text start end vec_items (λ l ys. Words l name ys) _ c.in-Some.v c.in-Some.is
-    c.in-ok-v.ensures in
-    points_read text start end name c.as-slice.result.now c.points-of.result read.0
-    (subst (λ l. Words (part text start end) name l) (sym c.as-slice.ensures.value) read.1)
-    c.points-of.ensures
+    c.in_ok-v.ensures in
+    points_read text start end name c.as_slice.result.now c.points_of.result read.0
+    (subst (λ l. Words (part text start end) name l) (sym c.as_slice.ensures.value) read.1)
+    c.points_of.ensures

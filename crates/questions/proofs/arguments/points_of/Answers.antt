@@ -16,7 +16,7 @@ loop-i-preserved c =
     let two = get_or xs i nan ∷ (get_or xs (i + 1) nan ∷ []) in (
       omega arith,
       omega arith,
-      ap coordinates c.in-ok-push.ensures.items
+      ap coordinates c.in_ok-push.ensures.items
           ∙ coordinates_push (vec_items c.loop-i.points) _
           ∙ ap (λ l. l ++ two) c.loop-i.invariant.2
           ∙ take_two xs i more,

@@ -5,11 +5,11 @@ use Rattle.questions.specs.Spelling.{Words}
 use Rattle.questions.proofs.Held.{reads_none, reads_some, two_items}
 use Rattle.questions.proofs.arguments.two_numbers.Goals as goal
 
-pub returns-in-default : goal.returns-in-default
-returns-in-default c inside y w =
+pub returns-in_default : goal.returns-in_default
+returns-in_default c inside y w =
     reads_none c.args.text.now c.args.line.start c.args.line.end vec_items
-    (λ l ys. (length ys ≡ 2) × Words l c.args.name.now ys) _ c.in-default.is
-    c.in-ok-v.ensures inside (y.0 ∷ (y.1 ∷ [])) (refl, w)
+    (λ l ys. (length ys ≡ 2) × Words l c.args.name.now ys) _ c.in_default.is
+    c.in_ok-v.ensures inside (y.0 ∷ (y.1 ∷ [])) (refl, w)
 
 pub returns : goal.returns
 returns c =
@@ -19,7 +19,7 @@ returns c =
     let name = c.args.name.now in
     let read =
     reads_some text start end vec_items (λ l ys. (length ys ≡ 2) × Words l name ys) _ c.in-Some.v
-    c.in-Some.is c.in-ok-v.ensures in
+    c.in-Some.is c.in_ok-v.ensures in
     let all =
     two_items (vec_items c.in-Some.v) _ _ read.1.0
     c.index.ensures c.index-2.ensures in

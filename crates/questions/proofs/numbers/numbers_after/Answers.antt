@@ -12,7 +12,7 @@ returns-then-stop-end c =
     let end = c.args.end in
     let name = c.args.name.now in
     let named = c.in-Some.ensures in
-    let read = c.in-ok-numbers.ensures in
+    let read = c.in_ok-numbers.ensures in
     let none = ap (λ k. part text k end) c.if-stop-end.true ∙ part_end text end in (
       named.inside,
       record {
@@ -30,9 +30,9 @@ pub returns-else-stop-end : goal.returns-else-stop-end
 returns-else-stop-end c inside xs words =
     let text = c.args.text.now in
     let end = c.args.end in
-    let stop = c.in-ok-numbers.stop in
+    let stop = c.in_ok-numbers.stop in
     let named = c.in-Some.ensures in
-    let read = c.in-ok-numbers.ensures in
+    let read = c.in_ok-numbers.ensures in
     let after = append_cancel_left c.args.name.now _ _ (sym words.whole ∙ named.whole) in
     let same =
     same_count words.bits read.bits [] (part text stop end) words.sized tt plain_nil

@@ -16,13 +16,13 @@ loop-bits-preserved c =
     let bits = c.in-Some.bits in
     let at = c.in-Some.ensures in
     let left = part text (place + 17) end in
-    let float = c.f64-from-bits-with-nan.ensures in (
+    let float = c.f64_from_bits_with_nan.ensures in (
       inv.0 ++ (bits ∷ []),
       sized_push inv.0 bits inv.1 at.sized,
       map-append (of_bits binary64) inv.0 (bits ∷ [])
           ∙ ap (λ l. l ++ (of_bits binary64 bits ∷ [])) inv.2
           ∙ ap (λ x. vec_items c.loop-bits.numbers ++ (x ∷ [])) (sym float)
-          ∙ sym c.in-ok-push.ensures.items,
+          ∙ sym c.in_ok-push.ensures.items,
       inv.3 ∙ ap (λ l. numbers_text inv.0 ++ l) at.whole ∙ numbers_push inv.0 bits left,
       λ _. (after_number text place end bits left at.inside at.whole).0,
     )

@@ -18,11 +18,11 @@ loop-b-preserved c =
     let long = ap length same ∙ length_hex_text 16 bits in
     let ascii = (ascii_at 16 bits i (omega arith)).0 in
     let low = subst (λ (l : List ℕ). get_or l i 0 < 128) (sym same) ascii in
-    let push = c.in-ok-push.ensures in (
+    let push = c.in_ok-push.ensures in (
       same,
-      one_more c.bits-text-digits.result
+      one_more c.bits_text-digits.result
           (string_bytes c.loop-b.text) (string_bytes c.push.new.self)
-          (encode (get_or c.bits-text-digits.result c.loop-b.b-index 0)) i (omega arith)
+          (encode (get_or c.bits_text-digits.result c.loop-b.b-index 0)) i (omega arith)
           c.loop-b.invariant.1 push.bytes (push.ascii low),
     )
 
@@ -30,4 +30,4 @@ pub returns : goal.returns
 returns c =
     let same = c.loop-b.invariant.0 in
     let long = ap length same ∙ length_hex_text 16 (to_bits binary64 c.args.x) in
-    c.loop-b.invariant.1 ∙ take_all c.loop-b.b-index c.bits-text-digits.result (omega arith) ∙ same
+    c.loop-b.invariant.1 ∙ take_all c.loop-b.b-index c.bits_text-digits.result (omega arith) ∙ same
