@@ -1,10 +1,10 @@
 -- A line that is answered one way or the other is answered as the grammar says.
-use Rattle.std.proofs.Common.{◌≡◌, ℕ, ◌⊎◌, List, Ok, Err, Result, sym, ◌∙◌, subst, inl, inr, MatchResult}
-use Rattle.text.specs.Grammar.{CommandAt, Unspelled}
+use Rattle.std.proofs.Common.{ℕ, List, Ok, Err, Result, sym, ◌∙◌, subst, inl, inr, MatchResult}
+use Rattle.text.specs.Grammar.{CommandAt}
 use Rattle.text.specs.declared.command.Command.{Command}
 use Rattle.text.proofs.Unique.{same_command}
 use Rattle.job.specs.Reply.{Kept}
-use Rattle.job.specs.Answer.{NoCommand, Replies, Asked, Refused, EitherWay, Answered}
+use Rattle.job.specs.Answer.{NoCommand, Replies, Asked, EitherWay, Answered}
 
 module _ (bytes : List ℕ) (from to number : ℕ) (old : Kept) (printed : List ℕ) (new : Kept) where
   the_command : Asked bytes from to old printed new → (q : Command) → CommandAt bytes from to q
