@@ -1,5 +1,5 @@
 -- What a row does to a book that stands to the table and to the cells.
-use Rattle.std.proofs.Common.{◌≡◌, ℕ, suc, ◌+◌, ◌*◌, ◌<◌, ◌≤◌, min, Bool, true, false, cond, eqb, ◌⊎◌, List, [], ◌∷◌, ◌++◌, length, take, drop, Some, None, Ok, Err, Option, Result, sym, refl, ap, ◌∙◌, subst, inl, inr, arith, eq-eqb}
+use Rattle.std.proofs.Common.{◌≡◌, ℕ, suc, ◌+◌, ◌*◌, ◌≤◌, cond, List, ◌∷◌, ◌++◌, length, take, drop, None, Ok, Err, Option, Result, sym, refl, ap, ◌∙◌, subst, arith, eq-eqb}
 use lib.Ieee.{Float}
 use Rattle.std.proofs.lemmas.List.{take-append-drop, length-take-le}
 use Rattle.points.specs.Faults.{raised, after, in_layer}
@@ -9,12 +9,12 @@ use Rattle.points.specs.declared.fault.Fault.{Fault}
 use Rattle.points.specs.declared.fault.Layer.TheVariants.{Table}
 use Rattle.points.specs.declared.point.Point.{Point}
 use Rattle.frechet.specs.Next.{row_allowed, row_of_lines, row_in_cells, row_unless, next_row}
-use Rattle.frechet.specs.Row.{Run, last_from, row_start, row_before, written}
+use Rattle.frechet.specs.Row.{last_from, row_start, row_before, written}
 use Rattle.frechet.specs.Table.{Rows, shorter}
 use Rattle.frechet.proofs.Asking.{Allowed, allowed, shorter_min, before_kept, before_front, row_short}
 use Rattle.frechet.proofs.Halves.{row_whole, next_before, half_room}
 use Rattle.book.specs.Book.{Book, newest, with_row, row_run, rowed}
-use Rattle.plan.specs.Rows.{Progress, Called, counted, called_unless, row_called, Calls}
+use Rattle.plan.specs.Rows.{Progress, counted, called_unless, row_called, Calls}
 
 module _ {S : Type 0} where
   -- where a comparison has come to with the rows of a book

@@ -1,11 +1,11 @@
 -- What an edit does to a book that stands to the table.
-use Rattle.std.proofs.Common.{◌≡◌, ℕ, ◌+◌, ◌-◌, ◌<◌, ◌≤◌, Bool, true, false, cond, not, eqb, ltb, leb, ◌⊎◌, List, [], ◌∷◌, ◌++◌, length, Ok, Err, Result, sym, refl, ap, ◌∙◌, subst, inl, inr, ⊎_elim, arith, le-ltb, lt-ltb, eq-eqb, le-leb}
+use Rattle.std.proofs.Common.{◌≡◌, ℕ, ◌-◌, ◌<◌, ◌≤◌, Bool, true, false, not, eqb, ltb, leb, ◌⊎◌, List, [], ◌∷◌, ◌++◌, length, Ok, Err, Result, sym, refl, ap, ◌∙◌, subst, inl, inr, ⊎_elim, arith, le-ltb, lt-ltb, eq-eqb, le-leb}
 use lib.Ieee.{Float}
 use Rattle.std.proofs.lemmas.Bool.{lt-leb, ne_eqb, cases_lt}
-use Rattle.points.specs.Faults.{raised, placed, after, in_layer}
+use Rattle.points.specs.Faults.{raised, after, in_layer}
 use Rattle.points.specs.Finite.{first_unfit}
 use Rattle.points.specs.Limits.{last_edit}
-use Rattle.points.specs.declared.fault.Cause.TheVariants.{NotFinite, NoRoom, NoEditNumber, NothingToUndo}
+use Rattle.points.specs.declared.fault.Cause.TheVariants.{NoEditNumber, NothingToUndo}
 use Rattle.points.specs.declared.fault.Fault.{Fault}
 use Rattle.points.specs.declared.fault.Layer.TheVariants.{Table}
 use Rattle.points.specs.declared.point.Point.{Point}

@@ -7,7 +7,7 @@ use Rattle.points.specs.declared.point.Point.{Point}
 use Rattle.book.specs.declared.call.Answer.{Answer}
 use Rattle.book.specs.declared.call.Call.{Call}
 use Rattle.book.specs.Book.{empty_book}
-use Rattle.book.specs.Calls.{Moment, start, next, answer, played, answers}
+use Rattle.book.specs.Calls.{Moment, start, next, played, answers}
 use Rattle.table.specs.declared.Head.{Head}
 use Rattle.table.specs.declared.Record.{Record}
 use Rattle.table.specs.Format.{Formatted}

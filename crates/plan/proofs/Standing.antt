@@ -1,14 +1,13 @@
 -- A comparison that stands to a book, and goes on standing after a row.
-use Rattle.std.proofs.Common.{◌≡◌, ℕ, ◌≤◌, true, ◌⊎◌, List, length, take, drop, None, Ok, Err, Result, sym, refl, ap, ◌∙◌, subst, inl, inr, arith}
+use Rattle.std.proofs.Common.{◌≡◌, ℕ, ◌≤◌, true, List, length, take, drop, Ok, Err, Result, sym, refl, ap, ◌∙◌, subst, inl, inr, arith}
 use lib.Ieee.{Float}
 use Rattle.std.proofs.lemmas.List.{take_all, drop_all}
 use Rattle.points.specs.declared.fault.Fault.{Fault}
 use Rattle.points.specs.declared.point.Point.{Point}
-use Rattle.frechet.specs.Row.{last_from}
 use Rattle.book.specs.declared.call.Answer.{Answer}
 use Rattle.book.specs.declared.call.Answer.TheVariants.{Done}
 use Rattle.book.specs.declared.call.Call.{Call}
-use Rattle.book.specs.Book.{Book, newest, rowed, closing}
+use Rattle.book.specs.Book.{Book, rowed, closing}
 use Rattle.book.specs.Calls.{Moment, in_turn, comparing_after, called, tells}
 use Rattle.table.specs.declared.Record.{Record}
 use Rattle.table.proofs.Lines.{line_count}

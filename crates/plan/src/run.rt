@@ -22,7 +22,7 @@ fn play<S: Space, R: CoordsIter + Copy>(
     answers: &mut [Answer],
 ) -> State<R>
     requires { length calls.now ≤ length answers.old }
-    ensures book { Plays far ratio coords table.old cells.old state
+    ensures book { Plays S.far S.ratio R.coords table.old cells.old state
         calls.now table.new cells.new result answers.new }
     ensures rest { drop (length calls.now) answers.new
         ≡ drop (length calls.now) answers.old }
@@ -58,7 +58,7 @@ fn run_from_format<S: Space, R: CoordsIter + Copy>(
 ) -> Result<State<R>, Fault>
     ensures { elim result [
       | Ok s ↦
-          RunOk far ratio coords table.old cells.old calls.now
+          RunOk S.far S.ratio R.coords table.old cells.old calls.now
           answers.old table.new cells.new s answers.new
       | Err f ↦
           RunErr (length calls.now) f table.old cells.old answers.old
@@ -80,15 +80,15 @@ pub fn run<S: Space, R: CoordsIter + Copy>(
 ) -> Result<State<R>, Fault>
     ensures book { elim result [
       | Ok s ↦
-          RunOk far ratio coords table.old cells.old calls.now
+          RunOk S.far S.ratio R.coords table.old cells.old calls.now
           answers.old table.new cells.new s answers.new
       | Err f ↦
           RunErr (length calls.now) f table.old cells.old answers.old
           table.new cells.new answers.new
     ] }
-    ensures couplings { CouplingLaw far ratio coords (length table.old)
+    ensures couplings { CouplingLaw S.far S.ratio R.coords (length table.old)
         (length cells.old) calls.now }
-    ensures nearness { NearnessLaw far ratio coords }
+    ensures nearness { NearnessLaw S.far S.ratio R.coords }
 {
     run_from_format(table, cells, calls, answers)
 }

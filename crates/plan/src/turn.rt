@@ -32,7 +32,7 @@ fn edit<S: Space, R: CoordsIter + Copy>(
     head: Head,
     call: &Call<S, R>,
 ) -> (State<R>, Answer)
-    ensures { Steps far ratio coords table.old cells.now (State.Editing head)
+    ensures { Steps S.far S.ratio R.coords table.old cells.now (State.Editing head)
         call.now table.new cells.now result.0 result.1 }
 {
     let mut head = head;
@@ -72,11 +72,11 @@ fn row_within<S: Space, R: CoordsIter>(
     count: usize,
 ) -> Result<(), Fault>
     ensures head { comparison.new.head ≡ comparison.old.head }
-    ensures reference { coords reference.new ≡ coords reference.old }
+    ensures reference { R.coords reference.new ≡ R.coords reference.old }
     ensures rest { drop (min count (length cells.old)) cells.new
         ≡ drop (min count (length cells.old)) cells.old }
-    ensures called { RowOutcome (far space.now) table.now comparison.old
-        (coords reference.old) (take (min count (length cells.old)) cells.old)
+    ensures called { RowOutcome (S.far space.now) table.now comparison.old
+        (R.coords reference.old) (take (min count (length cells.old)) cells.old)
         comparison.new (take (min count (length cells.old)) cells.new) result }
 {
     let given = count.min(cells.len());
@@ -91,7 +91,7 @@ fn compare<S: Space, R: CoordsIter + Copy>(
     reference: R,
     call: &Call<S, R>,
 ) -> (State<R>, Answer)
-    ensures { Steps far ratio coords table.now cells.old
+    ensures { Steps S.far S.ratio R.coords table.now cells.old
         (State.Comparing comparison reference) call.now table.now cells.new
         result.0 result.1 }
 {
@@ -124,7 +124,7 @@ pub(crate) fn turn<S: Space, R: CoordsIter + Copy>(
     state: State<R>,
     call: &Call<S, R>,
 ) -> (State<R>, Answer)
-    ensures { Steps far ratio coords table.old cells.old state call.now
+    ensures { Steps S.far S.ratio R.coords table.old cells.old state call.now
         table.new cells.new result.0 result.1 }
 {
     match state {

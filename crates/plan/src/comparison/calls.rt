@@ -30,10 +30,10 @@ fn reference_count<R: CoordsIter>(
     reference: &R,
 ) -> Result<usize, Fault>
     ensures { elim result [
-      | Ok n ↦ Counted table.now head.now (length (coords reference.now)) n
+      | Ok n ↦ Counted table.now head.now (length (R.coords reference.now)) n
       | Err f ↦
           BadTable table.now head.now f
-          ⊎ TooLong table.now head.now (length (coords reference.now)) f
+          ⊎ TooLong table.now head.now (length (R.coords reference.now)) f
     ] }
 {
     check(table, head)?;
@@ -47,8 +47,8 @@ pub fn open<R: CoordsIter>(
     reference: &R,
 ) -> Result<Comparison, Refused>
     ensures { elim result [
-      | Ok c ↦ OpenOk table.now head (length (coords reference.now)) c
-      | Err e ↦ OpenErr table.now head (length (coords reference.now)) e
+      | Ok c ↦ OpenOk table.now head (length (R.coords reference.now)) c
+      | Err e ↦ OpenErr table.now head (length (R.coords reference.now)) e
     ] }
 {
     match reference_count(table, &head, reference) {
@@ -115,7 +115,7 @@ impl Comparison {
         ensures head { self.new.head ≡ self.old.head }
         ensures reference { R.CoordsIter.coords reference.new ≡ R.CoordsIter.coords
             reference.old }
-        ensures called { Calls (row_called (far space.now) (progress self.old)
+        ensures called { Calls (row_called (S.far space.now) (progress self.old)
             (K.CoordsIter.coords kept.old) (R.CoordsIter.coords reference.old)
             cells.old) (progress self.new) cells.new result }
     {
@@ -135,9 +135,9 @@ impl Comparison {
         cells: &mut [f64],
     ) -> Result<(), Fault>
         ensures head { self.new.head ≡ self.old.head }
-        ensures reference { coords reference.new ≡ coords reference.old }
-        ensures called { RowOutcome (far space.now) table.now self.old
-            (coords reference.old) cells.old self.new cells.new result }
+        ensures reference { R.coords reference.new ≡ R.coords reference.old }
+        ensures called { RowOutcome (S.far space.now) table.now self.old
+            (R.coords reference.old) cells.old self.new cells.new result }
     {
         check(table, &self.head)?;
         let mut kept = Chain::new(table, &self.head);

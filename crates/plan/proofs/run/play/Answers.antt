@@ -1,6 +1,6 @@
 use Rattle.std.proofs.Common.{length, ◌∙◌, arith}
 use Rattle.std.proofs.lemmas.List.{drop-set-lt}
-use Rattle.plan.proofs.Playing.{begun, more, ended}
+use Rattle.plan.proofs.Playing.{more, ended}
 use Rattle.plan.proofs.run.play.Goals as goal
 
 pub loop-k-preserved : goal.loop-k-preserved

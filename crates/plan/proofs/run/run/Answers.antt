@@ -11,7 +11,7 @@ returns g c =
     let ok = λ (s : g.row.S.Denot) (p q : Point). g.S.Space.admits s p && g.S.Space.admits s q in
     let law = g.met.S.Space.distances in
     record {
-      book = c.run-from-format.ensures;
+      book = c.run_from_format.ensures;
       couplings = coupling_law far ratio coords ok law (length c.args.table.now)
           (length c.args.cells.now) c.args.calls.now;
       nearness = nearness_law far ratio coords ok law;

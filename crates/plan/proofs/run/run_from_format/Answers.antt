@@ -11,9 +11,9 @@ returns g c =
     let coords = g.R.CoordsIter.coords in
     let t = c.args.table.now in
     let xs = c.args.cells.now in
-    let can = c.in-ok-can-run.ensures in
-    let made = c.in-ok-head.ensures in
-    let fresh = formatted coords t c.format.new.table c.in-ok-head.head xs made.sized
+    let can = c.in_ok-can_run.ensures in
+    let made = c.in_ok-head.ensures in
+    let fresh = formatted coords t c.format.new.table c.in_ok-head.head xs made.sized
     made.done in
     record {
       sized = made.sized;

@@ -15,21 +15,21 @@ returns-in-Row g c = λ at st.
     let coords = g.R.CoordsIter.coords in
     let t = c.args.table.now in
     let xs = c.args.cells.now in
-    let xs' = c.row-within-result.new.cells in
-    let c' = c.row-within-result.new.comparison in
-    let r' = c.row-within-result.new.reference in
+    let xs' = c.row_within-result.new.cells in
+    let c' = c.row_within-result.new.comparison in
+    let r' = c.row_within-result.new.reference in
     let space = c.in-Row.space in
     let count = c.in-Row.count in
-    let u = c.row-within-result.ensures in
-    let a = c.edit-answer.result in
+    let u = c.row_within-result.ensures in
+    let a = c.edit_answer.result in
     let m = min count (length xs) in
     let few : m ≤ length xs = omega arith in
     subst (λ v. Stepped far ratio coords (length t) (length xs) at v t xs' (Comparing c' r') a) (sym c.in-Row.is)
     (row_step far ratio coords (length t) (length xs) at (Row space count) (sym st.turn) t xs' c' r' a
-    c.row-within-result.result c.edit-answer.ensures
+    c.row_within-result.result c.edit_answer.ensures
     (row_does coords at.book t xs c.args.comparison c.args.reference st.book.0 st.book.1
     (far space.now) space.now m c' r' xs' u.head u.reference few u.rest
-    c.row-within-result.result u.called) refl refl st.turn)
+    c.row_within-result.result u.called) refl refl st.turn)
 
 pub returns-in-Close : goal.returns-in-Close
 returns-in-Close g c = λ at st.
