@@ -5,26 +5,13 @@ use points::fault::Fault;
 use table::Head;
 
 // It has taken the head, so the line cannot be edited until `close` gives the head back. It keeps the
-// reference's count at open, how many rows were accepted, and the last cell of the newest.
+// reference's count at open, how many rows were accepted, and the last cell of the newest. It derives no
+// `Drop`, so it cannot be let go: only `close` spends it, by taking it apart.
 pub struct Comparison {
     pub(crate) head: Head,
     reference: usize,
     done: usize,
     last: Option<f64>,
-}
-
-// No caller meets this, so an open comparison cannot be let go: only `close` spends it, by taking it apart.
-impl Drop for Comparison {
-    fn drop(self)
-        requires { ⊥ }
-    {
-        let Comparison {
-            head: _,
-            reference: _,
-            done: _,
-            last: _,
-        } = self;
-    }
 }
 
 // A refused open hands the head back.
