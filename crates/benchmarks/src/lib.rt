@@ -2,13 +2,13 @@
 #![tactic(auto)]
 
 ghost use Rattle.std.specs.Prelude.{◌≡◌};
-ghost use Rattle.std.specs.Float.{sqrt as rootOf, binary64};
+ghost use Rattle.std.specs.Float.{sqrt as root_of, binary64};
 
 use roots::square_root;
 
 #[unsafe(no_mangle)]
 pub extern "C" fn certified_square_root(x: f64) -> f64
-    ensures { result ≡ rootOf binary64 x }
+    ensures { result ≡ root_of binary64 x }
 {
     let root = square_root(x);
     root
@@ -16,7 +16,7 @@ pub extern "C" fn certified_square_root(x: f64) -> f64
 
 #[unsafe(no_mangle)]
 pub extern "C" fn library_square_root(x: f64) -> f64
-    ensures { result ≡ rootOf binary64 x }
+    ensures { result ≡ root_of binary64 x }
 {
     x.sqrt()
 }

@@ -1,13 +1,13 @@
 // Square root and hypot of the series host.
 ghost use Rattle.std.specs.Prelude.{◌≡◌};
-ghost use Rattle.points.specs.Rounded.{root as rootOf};
+ghost use Rattle.points.specs.Rounded.{root as root_of};
 ghost use Rattle.hosts.specs.Length as Length;
 
 use roots::square_root;
 
 // The root by its value alone, which is what the series cite.
 pub(crate) fn root(x: f64) -> f64
-    ensures { result ≡ rootOf x }
+    ensures { result ≡ root_of x }
 {
     square_root(x)
 }

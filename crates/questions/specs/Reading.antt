@@ -50,6 +50,6 @@ pub record NoPlane (line : List ℕ) : Type 0 where
 
 -- a question that the line spells, or none where it spells no question of one kind
 abbrev pub Asks : List ℕ → ℕ → ℕ → (List ℕ → Type 0) → Option Question → Type 0
-Asks bytes from to None-of o =
-    MatchOption o (Inside bytes from to → None-of (part bytes from to))
+Asks bytes from to NoneOf o =
+    MatchOption o (Inside bytes from to → NoneOf (part bytes from to))
     (λ q. Inside bytes from to × Spells (part bytes from to) (asked q))

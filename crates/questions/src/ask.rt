@@ -1,7 +1,7 @@
 // The answer to a question: the series host's, or that of the Euclidean plane over it.
 ghost use Rattle.std.specs.Prelude.{◌≡◌, IfOk};
 ghost use Rattle.measures.specs.Length.{length_of};
-ghost use Rattle.frechet.specs.Table.{frechet as frechetOf};
+ghost use Rattle.frechet.specs.Table.{frechet as frechet_of};
 ghost use Rattle.questions.specs.Asked.{asked};
 ghost use Rattle.questions.specs.Answers.{heard, measured, landed, far, cells_for, answer_to};
 
@@ -64,7 +64,7 @@ fn length_of(points: &[Point]) -> Result<f64, Fault>
 }
 
 fn frechet_of(heap: Global, ps: &[Point], qs: &[Point]) -> Result<Result<f64, Fault>, AllocError>
-    ensures { IfOk result (λ d. d ≡ (frechetOf far ps.now qs.now
+    ensures { IfOk result (λ d. d ≡ (frechet_of far ps.now qs.now
         (cells_for ps.now qs.now)).result) }
 {
     // So many cells that their count overflows would find no memory.

@@ -52,6 +52,7 @@ pub trait Space {
     fn point_at_ratio(&self, pair: Self::Pair, ratio_from_start: f64) -> Result<Point, Fault>
         ensures { result ≡ between self.now pair ratio_from_start };
 
+    // The laws. They stand below the last function: above it a ghost member is data, which owes no proof.
     ghost distances: { (s : Self) (p q : Point) → Measures (admits s p && admits s q) (far s p q) };
 
     ghost ratios: { (s : Self) (p q : Point) (t : Float)

@@ -1,6 +1,6 @@
 // A new table: all records free.
 ghost use Rattle.std.specs.Prelude.{◌≡◌, ◌<◌, ◌≤◌, length, Ok, Err, slice_set};
-ghost use Rattle.table.specs.Chains.{at as recordAt};
+ghost use Rattle.table.specs.Chains.{at as record_at};
 ghost use Rattle.table.specs.Format.{cleared, follower, InOrder, Formatted, FormatOk, FormatErr};
 ghost use Rattle.table.specs.Numbers.{most_records};
 ghost use Rattle.table.specs.Whole.{Sized};
@@ -22,7 +22,7 @@ fn next_in_order(index: usize, n: usize) -> u16
 // Chains the records from 1 on as free.
 fn chain_free(table: &mut [Record])
     requires { Sized table.old }
-    ensures zeroth { recordAt table.new 0 ≡ recordAt table.old 0 }
+    ensures zeroth { record_at table.new 0 ≡ record_at table.old 0 }
     ensures each { InOrder table.new }
 {
     let n = table.len();

@@ -1,6 +1,6 @@
 // The single writes of which every edit is made.
 ghost use Rattle.std.specs.Prelude.{◌≡◌, ◌+◌, ◌<◌, length, slice_set};
-ghost use Rattle.table.specs.Chains.{at as recordAt};
+ghost use Rattle.table.specs.Chains.{at as record_at};
 ghost use Rattle.table.specs.Links.{freed, numbered, link_table, link_head};
 ghost use Rattle.table.specs.Links.{released_table, released_head, inserted_table, inserted_head};
 ghost use Rattle.table.specs.Numbers.{most_records};
@@ -10,7 +10,7 @@ use points::point::Point;
 
 pub(crate) fn record_at(table: &[Record], index: u16) -> Record
     requires { index < length table.now }
-    ensures { result ≡ recordAt table.now index }
+    ensures { result ≡ record_at table.now index }
 {
     table[index as usize]
 }
@@ -85,8 +85,8 @@ pub(crate) fn insert(
 pub(crate) fn renumber(table: &mut [Record], here: u16, edit: u8) -> u16
     requires { here < length table.old }
     ensures table { table.new
-        ≡ slice_set table.old here (numbered (recordAt table.old here) edit) }
-    ensures next { result ≡ (recordAt table.old here).next }
+        ≡ slice_set table.old here (numbered (record_at table.old here) edit) }
+    ensures next { result ≡ (record_at table.old here).next }
 {
     let next = record_at(table, here).next;
     table[here as usize].edit = edit;
