@@ -12,19 +12,15 @@ fn total<S: Space, L: CoordsIter>(space: &S, line: &mut L) -> Result<f64, Fault>
     ensures line { L.coords line.new ≡ L.coords line.old }
     ensures total { result ≡ total_of (S.far space.now) (L.coords line.old) }
 {
-    line.rewind();
-    let Some(mut start) = line.current() else {
+    let mut points = line.coords_iter();
+    let Some(mut start) = points.next() else {
         return Ok(0.0);
     };
-    line.advance();
     let mut sum = 0.0;
-    let mut pair = 1;
-    while let Some(end) = line.current() {
-        let distance = at_place(space.distance(start, end), pair)?;
+    for (k, end) in points.enumerate() {
+        let distance = at_place(space.distance(start, end), k + 1)?;
         sum = sum + distance;
         start = end;
-        line.advance();
-        pair += 1;
     }
     Ok(sum)
 }

@@ -1,10 +1,8 @@
 // How many pieces the stretch between two neighbours is cut into, and where.
 ghost use Rattle.std.specs.Prelude.{◌≡◌, ◌-◌};
-ghost use Rattle.measures.specs.Pieces.{is_maximum, checked_maximum, pieces_of, ratio_of, pieces_between};
+ghost use Rattle.measures.specs.Pieces.{is_maximum, checked_maximum, pieces_of, ratio_of};
 
-use points::fault::{Cause, Fault, Layer, in_layer};
-use points::point::Point;
-use spaces::space::Space;
+use points::fault::Cause;
 use std::num::saturating_f64_to_u32;
 
 fn is_maximum(maximum: f64) -> bool
@@ -36,24 +34,11 @@ pub fn pieces(distance: f64, maximum: f64) -> Result<u32, Cause>
     }
 }
 
-pub fn pieces_between<S: Space>(
-    space: &S,
-    start: Point,
-    end: Point,
-    maximum: f64,
-    layer: Layer,
-) -> Result<u32, Fault>
-    ensures { result ≡ pieces_between (S.far space.now) layer maximum start end }
-{
-    let distance = space.distance(start, end)?;
-    in_layer(pieces(distance, maximum), layer)
-}
-
 // How many points part so many pieces.
 pub fn points_within(pieces: u32) -> u32
     ensures { result ≡ pieces - 1 }
 {
-    if pieces == 0 { 0 } else { pieces - 1 }
+    pieces.saturating_sub(1)
 }
 
 // Where point `k` of so many pieces lies.

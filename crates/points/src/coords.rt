@@ -1,5 +1,6 @@
 // Lines that are walked point by point.
-ghost use Rattle.std.specs.Prelude.{◌≡◌, ℕ, List, length};
+ghost use Rattle.std.specs.Prelude.{◌≡◌, ℕ, List, length, drop};
+ghost use Rattle.std.specs.Iterator.{YieldsFirst, item_count};
 ghost use Rattle.std.specs.List.{slice_get};
 ghost use Rattle.points.specs.Walks.{stepped, fits};
 ghost use Rattle.points.specs.declared.point.Point.{Point};
@@ -29,6 +30,16 @@ pub trait CoordsIter {
         ensures same { coords self.new ≡ coords self.old }
         ensures next { position self.new ≡ stepped (coords self.old)
             (position self.old) };
+
+    // The points from the first on; the line is walked along.
+    final fn coords_iter(&mut self) -> Coords<'_, Self>
+        ensures same_reference { result.line.ghost_name ≡ self.entry.ghost_name }
+        ensures same { coords result.line.now ≡ coords self.old }
+        ensures first { position result.line.now ≡ 0 }
+    {
+        self.rewind();
+        Coords { line: self }
+    }
 }
 
 // The most points that a line given to a call may have: a place, and an index of a point, has 16 bits.
@@ -43,5 +54,28 @@ pub fn given_count<L: CoordsIter>(line: &L) -> Result<usize, Cause>
         Ok(count)
     } else {
         Err(Cause::NoRoom)
+    }
+}
+
+// The points of a line from its first on.
+#[derive(Drop)]
+pub struct Coords<'a, L> {
+    line: &'a mut L,
+}
+
+impl<L: CoordsIter> Iterator for Coords<'_, L> {
+    type Item = Point;
+
+    ghost next_gives = { λ s r t.
+        YieldsFirst (λ it. drop (L.position it.line.now) (L.coords it.line.now)) s r t
+        × (t.line.ghost_name ≡ s.line.ghost_name)
+        × (L.coords t.line.now ≡ L.coords s.line.now) };
+
+    ghost remaining = { item_count (λ it. drop (L.position it.line.now) (L.coords it.line.now)) };
+
+    fn next(&mut self) -> Option<Point> {
+        let point = self.line.current()?;
+        self.line.advance();
+        Some(point)
     }
 }

@@ -2,49 +2,34 @@
 ghost use Rattle.std.specs.Prelude.{◌≡◌};
 ghost use Rattle.points.specs.Faults.{number_of, raised, placed, in_layer, at_place};
 
-// The fourteen causes. `Cause::number` gives the number that a user sees.
-#[derive(Clone, Copy, Debug, PartialEq)]
+// The fourteen causes, each with the number that a user sees.
+#[derive(Clone, Copy, Debug, PartialEq, Eq, Hash)]
 pub enum Cause {
-    TableLength,
-    TableNotWhole,
-    NotFinite,
-    NotAdmitted,
-    TooManyPieces,
-    NoRoom,
-    NoEditNumber,
-    NothingToUndo,
-    NoAnswer,
-    BadResult,
-    NoRowLeft,
-    ReferenceChanged,
-    BadRadius,
-    Malformed,
+    TableLength = 1,
+    TableNotWhole = 2,
+    NotFinite = 3,
+    NotAdmitted = 4,
+    TooManyPieces = 5,
+    NoRoom = 6,
+    NoEditNumber = 7,
+    NothingToUndo = 8,
+    NoAnswer = 9,
+    BadResult = 10,
+    NoRowLeft = 11,
+    ReferenceChanged = 12,
+    BadRadius = 13,
+    Malformed = 14,
 }
 
 impl Cause {
     pub fn number(self) -> u8
         ensures { result ≡ number_of self }
     {
-        match self {
-            Cause::TableLength => 1,
-            Cause::TableNotWhole => 2,
-            Cause::NotFinite => 3,
-            Cause::NotAdmitted => 4,
-            Cause::TooManyPieces => 5,
-            Cause::NoRoom => 6,
-            Cause::NoEditNumber => 7,
-            Cause::NothingToUndo => 8,
-            Cause::NoAnswer => 9,
-            Cause::BadResult => 10,
-            Cause::NoRowLeft => 11,
-            Cause::ReferenceChanged => 12,
-            Cause::BadRadius => 13,
-            Cause::Malformed => 14,
-        }
+        self as u8
     }
 }
 
-#[derive(Clone, Copy, Debug, PartialEq)]
+#[derive(Clone, Copy, Debug, PartialEq, Eq, Hash)]
 pub enum Layer {
     Host,
     Space,
@@ -54,7 +39,7 @@ pub enum Layer {
 }
 
 // The place is a pair, a cell, an appended point or a line of a job, counted from 1, or 0 where there is none.
-#[derive(Clone, Copy, Debug, PartialEq)]
+#[derive(Clone, Copy, Debug, PartialEq, Eq, Hash)]
 pub struct Fault {
     pub cause: Cause,
     pub layer: Layer,
@@ -76,11 +61,7 @@ impl Fault {
     pub fn at(self, place: usize) -> Fault
         ensures { result ≡ placed place self }
     {
-        Fault {
-            cause: self.cause,
-            layer: self.layer,
-            place,
-        }
+        Fault { place, ..self }
     }
 }
 
@@ -88,18 +69,12 @@ impl Fault {
 pub fn in_layer<T>(res: Result<T, Cause>, layer: Layer) -> Result<T, Fault>
     ensures { result ≡ in_layer res layer }
 {
-    match res {
-        Ok(value) => Ok(value),
-        Err(cause) => Err(Fault::new(cause, layer)),
-    }
+    res.map_err(|cause| Fault::new(cause, layer))
 }
 
 // What a walk makes of a result at its place, so that `?` can carry it on.
 pub fn at_place<T>(res: Result<T, Fault>, place: usize) -> Result<T, Fault>
     ensures { result ≡ at_place res place }
 {
-    match res {
-        Ok(value) => Ok(value),
-        Err(fault) => Err(fault.at(place)),
-    }
+    res.map_err(|fault| fault.at(place))
 }

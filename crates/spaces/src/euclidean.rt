@@ -65,7 +65,7 @@ fn plane_pair(start: Point, end: Point) -> Result<PlanePair, Fault>
     both_admitted(start, end)?;
     Ok(PlanePair {
         start,
-        way: end.sub(start),
+        way: end - start,
     })
 }
 
@@ -73,7 +73,7 @@ fn on_pair(pair: PlanePair, ratio: f64) -> Result<Point, Fault>
     ensures { result ≡ Plane.between pair ratio }
 {
     finite(ratio)?;
-    point_answer(pair.start.add(pair.way.mul(ratio)))
+    point_answer(pair.start + pair.way * ratio)
 }
 
 impl<H: Host> Space for Euclidean<H> {
@@ -101,7 +101,7 @@ impl<H: Host> Space for Euclidean<H> {
 
     fn distance(&self, origin: Point, destination: Point) -> Result<f64, Fault> {
         both_admitted(origin, destination)?;
-        let delta = origin.sub(destination);
+        let delta = origin - destination;
         let length = self.host.hypot(delta.x, delta.y)?;
         distance_answer(length)
     }
@@ -124,10 +124,10 @@ impl<H: Host> Space for Euclidean<H> {
     ) -> Result<Point, Fault> {
         finite(distance_from_start)?;
         both_admitted(start, end)?;
-        let diff = end.sub(start);
+        let diff = end - start;
         let total_distance = self.host.hypot(diff.x, diff.y)?;
-        let offset = diff.mul(distance_from_start).div(total_distance);
-        point_answer(start.add(offset))
+        let offset = diff * distance_from_start / total_distance;
+        point_answer(start + offset)
     }
 
     fn pair(&self, start: Point, end: Point) -> Result<PlanePair, Fault> {

@@ -1,14 +1,14 @@
-use Rattle.std.proofs.Common.{◌≡◌, ◌-◌, ◌≤◌, length, drop}
+use Rattle.std.proofs.Common.{◌≡◌, ◌+◌, drop}
 use Rattle.measures.specs.Length.{total_from, total_of}
 use Rattle.measures.proofs.length.total.Given as goal
 
-abbrev pub invariant-loop-end : goal.invariant-loop-end
-invariant-loop-end g l =
+abbrev pub invariant-loop-k : goal.invariant-loop-k
+invariant-loop-k g l =
+    let line = l.k-iterator.iter.line in
     let far = g.S.Space.far l.space in
-    let ps = g.L.CoordsIter.coords l.initial.line in
-    (g.L.CoordsIter.coords l.line ≡ ps) × (g.L.CoordsIter.position l.line ≡ l.pair)
-    × (l.pair ≤ length ps)
-    × (total_from far l.pair l.sum l.start (drop l.pair ps) ≡ total_of far ps)
-
-abbrev pub decreases-loop-end : goal.decreases-loop-end
-decreases-loop-end g l = length (g.L.CoordsIter.coords l.initial.line) - l.pair
+    (goal.iterator-loop-k g).can_next l.k-iterator × (goal.iterator-loop-k g).is_finite l.k-iterator
+    × (g.L.CoordsIter.coords line.now ≡ g.L.CoordsIter.coords l.fn.line)
+    × (line.ghost_name ≡ l.initial.k-iterator.iter.line.ghost_name)
+    × (total_from far (l.k-iterator.count + 1) l.sum l.start
+        (drop (g.L.CoordsIter.position line.now) (g.L.CoordsIter.coords line.now))
+        ≡ total_of far (g.L.CoordsIter.coords l.fn.line))
