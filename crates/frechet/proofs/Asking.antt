@@ -11,7 +11,7 @@ use Rattle.points.specs.declared.point.Point.{Point}
 use Rattle.points.specs.Faults.{in_layer}
 use Rattle.frechet.specs.Next.{row_count, row_allowed, row_of_lines, row_in_cells, row_unless, next_row}
 use Rattle.frechet.specs.Row.{row_start, row_before, written}
-use Rattle.frechet.specs.Table.{longer, shorter}
+use Rattle.frechet.specs.Table.{shorter}
 use Rattle.frechet.proofs.Filling.{unread, length_row}
 use Rattle.frechet.proofs.Halves.{half_room}
 
@@ -46,15 +46,6 @@ answered_allowed far layer k A B xs l e = go (row_allowed k (length A) (length B
     go (Err c) q = let z : ◌≡◌ {A = ℕ} 0 1 = cc in absurd (omega arith)
 
 -- ---- how many rows there are
-
-pub longer_max : (A B : List Point) → length (longer A B) ≡ max (length A) (length B)
-longer_max A B =
-    ⊎_elim
-    (λ e. let h : length A ≤ length B = leb-true (length A) (length B) e in
-    ap (λ v. length (cond v B A)) e ∙ omega arith)
-    (λ e. let h : length B < length A = leb-false (length A) (length B) e in
-    ap (λ v. length (cond v B A)) e ∙ omega arith)
-    (cases_Bool (leb (length A) (length B)))
 
 pub shorter_min : (A B : List Point) → length (shorter A B) ≡ min (length A) (length B)
 shorter_min A B =

@@ -6,5 +6,4 @@ pub mod Values
 pub mod Told
 pub mod Couplings
 pub mod Fresh
-pub mod Seeking
 pub mod Asking

@@ -1,44 +1,26 @@
 -- One row more of all rows.
-use Rattle.std.proofs.Common.{◌≡◌, ℕ, ◌+◌, ◌≤◌, List, length, drop, Some, Ok, Err, Option, Result, ap, ◌∙◌}
+use Rattle.std.proofs.Common.{◌≡◌, ℕ, ◌+◌, ◌*◌, ◌≤◌, List, ◌∷◌, length, None, Ok, Option, Result, sym, ap, ◌∙◌}
 use lib.Ieee.{Float}
-use Rattle.std.specs.List.{slice_get}
-use Rattle.std.proofs.lemmas.List.{drop_all}
 use Rattle.points.specs.declared.fault.Fault.{Fault}
 use Rattle.points.specs.declared.point.Point.{Point}
-use Rattle.frechet.specs.Row.{Run, row_of, row_start, written}
-use Rattle.frechet.specs.Table.{Rows, row_then, rows_from}
-use Rattle.points.proofs.Walking.{drop_some}
+use Rattle.frechet.specs.Row.{row_of, row_start, row_before, written}
+use Rattle.frechet.specs.Table.{row_then, rows_from}
+use Rattle.frechet.proofs.Halves.{row_whole, next_before, half_room}
 
-module _ (far : Point → Point → Result Float Fault) (ps qs : List Point) (k : ℕ) (above : List Float)
-    (last : Option Float) (xs : List Float) where
-  -- the rows that are left, after k of them
-  abbrev pub left : Rows
-  left = rows_from far k above last (drop k ps) qs xs
-
-  pub none_left : length ps ≤ k → rows_from far k above last (drop k ps) qs xs
-      ≡ record { last = Ok last; cells = xs }
-  none_left h = ap (λ l. rows_from far k above last l qs xs) (drop_all k ps h)
-
-  module _ (p : Point) (at : slice_get ps k ≡ Some p) where
-    abbrev run : Run
-    run = row_of (far p) above qs
-
-    abbrev cells : List Float
-    cells = written (row_start k (length qs)) (row_of (far p) above qs).cells xs
-
-    abbrev go : Option Float → List Float → Rows
-    go l ys = rows_from far (k + 1) (row_of (far p) above qs).cells l (drop (k + 1) ps) qs ys
-
-    here : rows_from far k above last (drop k ps) qs xs ≡ row_then (row_of (far p) above qs).outcome cells go
-    here = ap (λ l. rows_from far k above last l qs xs) (drop_some ps k p at)
-
-    pub one_less : (l : Option Float) → (row_of (far p) above qs).outcome ≡ Ok l
-        → rows_from far k above last (drop k ps) qs xs
-        ≡ rows_from far (k + 1) (row_of (far p) above qs).cells l (drop (k + 1) ps) qs
-        (written (row_start k (length qs)) (row_of (far p) above qs).cells xs)
-    one_less l e = here ∙ ap (λ r. row_then r cells go) e
-
-    pub row_stops : (f : Fault) → (row_of (far p) above qs).outcome ≡ Err f
-        → rows_from far k above last (drop k ps) qs xs
-        ≡ record { last = Err f; cells = written (row_start k (length qs)) (row_of (far p) above qs).cells xs }
-    row_stops f e = here ∙ ap (λ r. row_then r cells go) e
+-- the row that was accepted is the row before the next
+pub row_done : (far : Point → Point → Result Float Fault) (p : Point) (ps qs : List Point) (k : ℕ)
+    (last l : Option Float) (xs : List Float) → 2 * length qs ≤ length xs
+    → (row_of (far p) (row_before k (length qs) xs) qs).outcome ≡ Ok l
+    → rows_from far k (row_before k (length qs) xs) last (p ∷ ps) qs xs
+    ≡ rows_from far (k + 1)
+    (row_before (k + 1) (length qs)
+    (written (row_start k (length qs)) (row_of (far p) (row_before k (length qs) xs) qs).cells xs))
+    l ps qs (written (row_start k (length qs)) (row_of (far p) (row_before k (length qs) xs) qs).cells xs)
+row_done far p ps qs k last l xs room out =
+    let above : List Float = row_before k (length qs) xs in
+    let cells : List Float = (row_of (far p) (row_before k (length qs) xs) qs).cells in
+    let full = (row_whole (far p) above 0 None None l qs out).full in
+    let before = next_before k (length qs) cells xs full (half_room k (length qs) (length xs) room) in
+    let ys : List Float = written (row_start k (length qs)) cells xs in
+    ap (λ r. row_then r ys (λ l' zs. rows_from far (k + 1) cells l' ps qs zs)) out
+    ∙ ap (λ b. rows_from far (k + 1) b l ps qs ys) (sym before)

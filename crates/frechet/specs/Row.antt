@@ -1,5 +1,5 @@
 -- One row of the table of two lines, where a distance may be refused, and the cells that it is written to.
-use Rattle.std.specs.Prelude.{ℕ, ◌+◌, ◌*◌, ◌%◌, ◌≤◌, cond, ◌⊎◌, List, [], ◌∷◌, ◌++◌, length, take, drop, Some, None, Ok, Err, Option, Result, ◌==◌, Float}
+use Rattle.std.specs.Prelude.{ℕ, ◌+◌, ◌*◌, ◌%◌, cond, List, [], ◌∷◌, ◌++◌, length, take, drop, Some, None, Ok, Err, Option, Result, ◌==◌, Float}
 use Rattle.std.specs.Float.Ieee.{lt}
 use Rattle.std.specs.List.{slice_get}
 use Rattle.couplings.specs.Rows.{larger, lesser, cell}
@@ -68,9 +68,3 @@ row_start k s = k % 2 * s
 
 abbrev pub row_before : ℕ → ℕ → List Float → List Float
 row_before k s xs = cond (k == 0) [] (take s (drop (row_start (k + 1) s) xs))
-
--- s cells from `this` on and n cells from `other` on lie in a buffer of so many cells, and apart
-pub record Apart (this other n s size : ℕ) : Type 0 where
-  pub row : this + s ≤ size
-  pub before : other + n ≤ size
-  pub apart : (other + n ≤ this) ⊎ (this + s ≤ other)

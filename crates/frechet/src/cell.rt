@@ -1,7 +1,6 @@
 // One cell of the table, from its distance and the cells before it.
-ghost use Rattle.std.specs.Prelude.{◌≡◌, ◌+◌, ◌≤◌, length, take, drop};
+ghost use Rattle.std.specs.Prelude.{◌≡◌};
 ghost use Rattle.std.specs.Float.Ieee.{lt as below};
-ghost use Rattle.std.specs.List.{slice_get};
 ghost use Rattle.couplings.specs.Rows.{larger as largerBy, lesser as lesserBy};
 ghost use Rattle.frechet.specs.Row.{cell_of, least_of};
 
@@ -30,9 +29,8 @@ fn least(a: Option<f64>, b: Option<f64>) -> Option<f64>
     ensures { result ≡ least_of a b }
 {
     match (a, b) {
-        (None, b) => b,
-        (Some(a), None) => Some(a),
         (Some(a), Some(b)) => Some(lesser(a, b)),
+        (a, b) => a.or(b),
     }
 }
 
@@ -40,20 +38,5 @@ fn least(a: Option<f64>, b: Option<f64>) -> Option<f64>
 pub(crate) fn cell(distance: f64, up: Option<f64>, diagonal: Option<f64>, left: Option<f64>) -> f64
     ensures { result ≡ cell_of distance up diagonal left }
 {
-    match least(least(up, diagonal), left) {
-        None => distance,
-        Some(path) => join(distance, path),
-    }
-}
-
-// Cell j of the `count` cells from `start` on.
-pub(crate) fn cell_at(cells: &[f64], start: usize, count: usize, j: usize) -> Option<f64>
-    requires { start + count ≤ length cells.now }
-    ensures { result ≡ slice_get (take count (drop start cells.now)) j }
-{
-    if j < count {
-        Some(cells[start + j])
-    } else {
-        None
-    }
+    least(least(up, diagonal), left).map_or(distance, |path| join(distance, path))
 }

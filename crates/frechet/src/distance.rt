@@ -1,6 +1,6 @@
 // The discrete Fréchet distance of two lines of any make, in a space of any make.
-ghost use Rattle.std.specs.Prelude.{◌≡◌, ◌*◌, ◌≤◌, length};
-ghost use Rattle.frechet.specs.Table.{frechet, tabled, answer_of, allowed, room_for};
+ghost use Rattle.std.specs.Prelude.{◌≡◌, length};
+ghost use Rattle.frechet.specs.Table.{frechet, allowed, room_for};
 ghost use Rattle.frechet.specs.Theorem.{LeastOverCouplings, NearnessPasses, WhateverCellsHeld};
 
 use crate::table::rows;
@@ -11,8 +11,7 @@ use spaces::space::Space;
 pub(crate) fn room(cells: usize, count_1: usize, count_2: usize) -> Result<(), Cause>
     ensures { result ≡ room_for cells count_1 count_2 }
 {
-    let shorter = if count_1 <= count_2 { count_1 } else { count_2 };
-    if shorter <= cells / 2 {
+    if count_1.min(count_2) <= cells / 2 {
         Ok(())
     } else {
         Err(Cause::NoRoom)
@@ -27,37 +26,6 @@ fn allow<A: CoordsIter, B: CoordsIter>(ls_1: &A, ls_2: &B, cells: usize) -> Resu
     let count_1 = given_count(ls_1)?;
     let count_2 = given_count(ls_2)?;
     room(cells, count_1, count_2)
-}
-
-fn answer_of(last: Result<Option<f64>, Fault>) -> Result<f64, Fault>
-    ensures { result ≡ answer_of last }
-{
-    match last? {
-        Some(distance) => Ok(distance),
-        None => Ok(0.0),
-    }
-}
-
-fn table<S: Space, L: CoordsIter, M: CoordsIter>(
-    cells: &mut [f64],
-    longer: &mut L,
-    shorter: &mut M,
-    space: &S,
-) -> Result<f64, Fault>
-    requires { (2 * length (M.CoordsIter.coords shorter.old) ≤ length cells.old) × (length
-        (L.CoordsIter.coords longer.old) ≤ 65535) }
-    ensures longer { L.CoordsIter.coords longer.new ≡ L.CoordsIter.coords
-        longer.old }
-    ensures shorter { M.CoordsIter.coords shorter.new ≡ M.CoordsIter.coords
-        shorter.old }
-    ensures cells { cells.new ≡ (tabled (S.far space.now)
-        (L.CoordsIter.coords longer.old) (M.CoordsIter.coords shorter.old)
-        cells.old).cells }
-    ensures result { result ≡ (tabled (S.far space.now) (L.CoordsIter.coords longer.old)
-        (M.CoordsIter.coords shorter.old) cells.old).result }
-{
-    let last = rows(cells, longer, shorter, space);
-    answer_of(last)
 }
 
 // The longer line goes down the rows and the shorter along them, so that two rows of the shorter suffice.
@@ -83,11 +51,12 @@ fn compare<S: Space, A: CoordsIter, B: CoordsIter>(
     if count_1 == 0 || count_2 == 0 {
         return Ok(0.0);
     }
-    if count_1 <= count_2 {
-        table(cells, ls_2, ls_1, space)
+    let last = if count_1 <= count_2 {
+        rows(cells, ls_2, ls_1, space)?
     } else {
-        table(cells, ls_1, ls_2, space)
-    }
+        rows(cells, ls_1, ls_2, space)?
+    };
+    Ok(last.unwrap_or(0.0))
 }
 
 // The least, over all couplings of the two lines, of the distance of a coupling's farthest pair. The rows need

@@ -39,11 +39,7 @@ fn seek<L: CoordsIter>(line: &mut L, k: usize) -> Option<Point>
     ensures line { L.coords line.new ≡ L.coords line.old }
     ensures found { result ≡ slice_get (L.coords line.old) k }
 {
-    line.rewind();
-    for _i in 0..k {
-        line.advance();
-    }
-    line.current()
+    line.coords_iter().nth(k)
 }
 
 // Row k of a longer and a shorter line.

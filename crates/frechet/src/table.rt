@@ -27,13 +27,9 @@ pub(crate) fn rows<S: Space, L: CoordsIter, M: CoordsIter>(
         (L.CoordsIter.coords longer.old) (M.CoordsIter.coords shorter.old)
         cells.old).last }
 {
-    longer.rewind();
-    let mut k = 0;
     let mut last = None;
-    while let Some(p) = longer.current() {
+    for (k, p) in longer.coords_iter().enumerate() {
         last = row(cells, k, p, shorter, space)?;
-        longer.advance();
-        k += 1;
     }
     Ok(last)
 }

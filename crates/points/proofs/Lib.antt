@@ -1,3 +1,3 @@
-pub mod Reversed
 pub mod Walking
 pub mod Placing
+pub mod Passing

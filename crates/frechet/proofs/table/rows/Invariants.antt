@@ -1,18 +1,17 @@
-use Rattle.std.proofs.Common.{◌≡◌, ◌-◌, ◌≤◌, [], length, drop, None}
+use Rattle.std.proofs.Common.{◌≡◌, [], length, drop, None}
 use Rattle.frechet.specs.Row.{row_before}
 use Rattle.frechet.specs.Table.{rows_from}
 use Rattle.frechet.proofs.table.rows.Given as goal
 
-abbrev pub invariant-loop-p : goal.invariant-loop-p
-invariant-loop-p g l =
-    let ps = g.L.CoordsIter.coords l.initial.longer in
-    let qs = g.M.CoordsIter.coords l.initial.shorter in
-    (g.L.CoordsIter.coords l.longer ≡ ps) × (g.M.CoordsIter.coords l.shorter ≡ qs)
-    × (g.L.CoordsIter.position l.longer ≡ l.k) × (l.k ≤ length ps)
-    × (rows_from (g.S.Space.far l.space) l.k (row_before l.k (length qs) l.cells) l.last
-    (drop l.k ps) qs
-    l.cells
-    ≡ rows_from (g.S.Space.far l.space) 0 [] None ps qs l.initial.cells)
-
-abbrev pub decreases-loop-p : goal.decreases-loop-p
-decreases-loop-p g l = length (g.L.CoordsIter.coords l.initial.longer) - l.k
+abbrev pub invariant-loop-k : goal.invariant-loop-k
+invariant-loop-k g l =
+    let far = g.S.Space.far l.space in
+    let line = l.k-iterator.iter.line in
+    let qs = g.M.CoordsIter.coords l.fn.shorter in
+    (goal.iterator-loop-k g).can_next l.k-iterator × (goal.iterator-loop-k g).is_finite l.k-iterator
+    × (g.L.CoordsIter.coords line.now ≡ g.L.CoordsIter.coords l.fn.longer)
+    × (line.ghost_name ≡ l.initial.k-iterator.iter.line.ghost_name)
+    × (g.M.CoordsIter.coords l.shorter ≡ qs)
+    × (rows_from far l.k-iterator.count (row_before l.k-iterator.count (length qs) l.cells) l.last
+    (drop (g.L.CoordsIter.position line.now) (g.L.CoordsIter.coords line.now)) qs l.cells
+    ≡ rows_from far 0 [] None (g.L.CoordsIter.coords l.fn.longer) qs l.fn.cells)

@@ -10,5 +10,5 @@ invariant-loop-k g l =
     × (g.L.CoordsIter.coords line.now ≡ g.L.CoordsIter.coords l.fn.line)
     × (line.ghost_name ≡ l.initial.k-iterator.iter.line.ghost_name)
     × (total_from far (l.k-iterator.count + 1) l.sum l.start
-        (drop (g.L.CoordsIter.position line.now) (g.L.CoordsIter.coords line.now))
-        ≡ total_of far (g.L.CoordsIter.coords l.fn.line))
+    (drop (g.L.CoordsIter.position line.now) (g.L.CoordsIter.coords line.now))
+    ≡ total_of far (g.L.CoordsIter.coords l.fn.line))

@@ -11,5 +11,5 @@ invariant-loop-k g l =
     × (g.L.CoordsIter.coords line.now ≡ g.L.CoordsIter.coords l.fn.line)
     × (line.ghost_name ≡ l.initial.k-iterator.iter.line.ghost_name)
     × (told (refined_from far ratio l.self.layer l.self.maximum (l.k-iterator.count + 1) l.start
-        (drop (g.L.CoordsIter.position line.now) (g.L.CoordsIter.coords line.now)))
-        ≡ told (refined far ratio l.self.layer l.self.maximum (g.L.CoordsIter.coords l.fn.line)))
+    (drop (g.L.CoordsIter.position line.now) (g.L.CoordsIter.coords line.now)))
+    ≡ told (refined far ratio l.self.layer l.self.maximum (g.L.CoordsIter.coords l.fn.line)))

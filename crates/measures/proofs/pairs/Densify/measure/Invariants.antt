@@ -10,7 +10,7 @@ invariant-loop-k g l =
     × (g.L.CoordsIter.coords line.now ≡ g.L.CoordsIter.coords l.fn.line)
     × (line.ghost_name ≡ l.initial.k-iterator.iter.line.ghost_name)
     × (taken_from far l.self.layer l.self.maximum (l.k-iterator.count + 1) l.count l.start
-        (drop (g.L.CoordsIter.position line.now) (g.L.CoordsIter.coords line.now))
-        ≡ taken far l.self.layer l.self.maximum (g.L.CoordsIter.coords l.fn.line))
+    (drop (g.L.CoordsIter.position line.now) (g.L.CoordsIter.coords line.now))
+    ≡ taken far l.self.layer l.self.maximum (g.L.CoordsIter.coords l.fn.line))
     × (l.count ≤ 4294967296 * l.k-iterator.count)
     × (l.k-iterator.count + length (drop (g.L.CoordsIter.position line.now) (g.L.CoordsIter.coords line.now)) ≤ 65535)

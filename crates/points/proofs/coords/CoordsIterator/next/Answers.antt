@@ -1,4 +1,4 @@
-use Rattle.std.proofs.Common.{rules, arith}
+use Rattle.std.proofs.Common.{arith}
 use Rattle.std.proofs.lemmas.Grind.{common_steps}
 use Rattle.points.proofs.Walking.{drop_some, past_none, within_some, step_inside}
 use Rattle.points.proofs.coords.CoordsIterator.next.Goals as goal
