@@ -13,7 +13,7 @@ pub told_ok : {X : Type 0} (r : Result X Fault) → told r ≡ Ok tt → (x : X)
 told_ok (Ok x) e = (x, refl)
 told_ok (Err f) e = let z : ◌≡◌ {A = ℕ} 0 1 = cc in absurd (omega arith)
 
-told_then : {X Y : Type 0} (r : Result X Fault) (k : X → Y) → told (after r (λ x. Ok (k x))) ≡ told r
+pub told_then : {X Y : Type 0} (r : Result X Fault) (k : X → Y) → told (after r (λ x. Ok (k x))) ≡ told r
 told_then (Ok x) k = refl
 told_then (Err f) k = refl
 

@@ -12,15 +12,9 @@ fn total<S: Space, L: CoordsIter>(space: &S, line: &mut L) -> Result<f64, Fault>
     ensures line { L.coords line.new ≡ L.coords line.old }
     ensures total { result ≡ total_of (S.far space.now) (L.coords line.old) }
 {
-    let mut points = line.coords_iter();
-    let Some(mut start) = points.next() else {
-        return Ok(0.0);
-    };
     let mut sum = 0.0;
-    for (k, end) in points.enumerate() {
-        let distance = at_place(space.distance(start, end), k + 1)?;
-        sum = sum + distance;
-        start = end;
+    for (k, (start, end)) in line.lines_iter().enumerate() {
+        sum = sum + at_place(space.distance(start, end), k + 1)?;
     }
     Ok(sum)
 }

@@ -33,15 +33,10 @@ impl<S: Space> Densify<'_, S> {
         ensures count { result ≡ taken (S.far self.now.space.now) self.now.layer self.now.maximum
             (L.coords line.old) }
     {
-        let mut points = line.coords_iter();
-        let Some(mut start) = points.next() else {
-            return Ok(0);
-        };
         let mut count = 0;
-        for (k, end) in points.enumerate() {
+        for (k, (start, end)) in line.lines_iter().enumerate() {
             let pieces = at_place(self.pieces_between(start, end), k + 1)?;
             count += points_within(pieces) as u64;
-            start = end;
         }
         Ok(count)
     }
@@ -75,13 +70,8 @@ impl<S: Space> Densify<'_, S> {
         ensures points { result ≡ told (refined (S.far self.now.space.now) (S.ratio self.now.space.now)
             self.now.layer self.now.maximum (L.coords line.old)) }
     {
-        let mut points = line.coords_iter();
-        let Some(mut start) = points.next() else {
-            return Ok(());
-        };
-        for (k, end) in points.enumerate() {
+        for (k, (start, end)) in line.lines_iter().enumerate() {
             at_place(self.ask_pair(start, end), k + 1)?;
-            start = end;
         }
         Ok(())
     }

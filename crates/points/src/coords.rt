@@ -2,7 +2,7 @@
 ghost use Rattle.std.specs.Prelude.{◌≡◌, ℕ, List, length, drop};
 ghost use Rattle.std.specs.Iterator.{YieldsFirst, item_count};
 ghost use Rattle.std.specs.List.{slice_get};
-ghost use Rattle.points.specs.Walks.{stepped, fits};
+ghost use Rattle.points.specs.Walks.{stepped, fits, neighbours, pairs_from};
 ghost use Rattle.points.specs.declared.point.Point.{Point};
 
 use crate::fault::Cause;
@@ -39,6 +39,19 @@ pub trait CoordsIter {
     {
         self.rewind();
         Coords { line: self }
+    }
+
+    // The pairs of neighbours, from the first point on.
+    final fn lines_iter(&mut self) -> Lines<'_, Self>
+        ensures same_reference { result.line.ghost_name ≡ self.entry.ghost_name }
+        ensures same { coords result.line.now ≡ coords self.old }
+        ensures neighbours { pairs_from result.start
+            (drop (position result.line.now) (coords result.line.now)) ≡ neighbours (coords self.old) }
+    {
+        self.rewind();
+        let start = self.current();
+        self.advance();
+        Lines { start, line: self }
     }
 }
 
@@ -77,5 +90,33 @@ impl<L: CoordsIter> Iterator for Coords<'_, L> {
         let point = self.line.current()?;
         self.line.advance();
         Some(point)
+    }
+}
+
+// The pairs of neighbours of a line, each with the point before and the point after.
+#[derive(Drop)]
+pub struct Lines<'a, L> {
+    start: Option<Point>,
+    line: &'a mut L,
+}
+
+impl<L: CoordsIter> Iterator for Lines<'_, L> {
+    type Item = (Point, Point);
+
+    ghost next_gives = { λ s r t.
+        YieldsFirst (λ it. pairs_from it.start
+            (drop (L.position it.line.now) (L.coords it.line.now))) s r t
+        × (t.line.ghost_name ≡ s.line.ghost_name)
+        × (L.coords t.line.now ≡ L.coords s.line.now) };
+
+    ghost remaining = { item_count (λ it. pairs_from it.start
+        (drop (L.position it.line.now) (L.coords it.line.now))) };
+
+    fn next(&mut self) -> Option<(Point, Point)> {
+        let start = self.start?;
+        let end = self.line.current()?;
+        self.line.advance();
+        self.start = Some(end);
+        Some((start, end))
     }
 }

@@ -1,14 +1,16 @@
 use Rattle.std.proofs.Common.{◌≡◌, ◌+◌, drop}
-use Rattle.measures.specs.Length.{total_from, total_of}
+use Rattle.points.specs.Walks.{pairs_from}
+use Rattle.measures.specs.Length.{total_of}
+use Rattle.measures.proofs.Neighbours.{total_over}
 use Rattle.measures.proofs.length.total.Given as goal
 
 abbrev pub invariant-loop-k : goal.invariant-loop-k
 invariant-loop-k g l =
-    let line = l.k-iterator.iter.line in
+    let it = l.k-iterator.iter in
     let far = g.S.Space.far l.space in
     (goal.iterator-loop-k g).can_next l.k-iterator × (goal.iterator-loop-k g).is_finite l.k-iterator
-    × (g.L.CoordsIter.coords line.now ≡ g.L.CoordsIter.coords l.fn.line)
-    × (line.ghost_name ≡ l.initial.k-iterator.iter.line.ghost_name)
-    × (total_from far (l.k-iterator.count + 1) l.sum l.start
-    (drop (g.L.CoordsIter.position line.now) (g.L.CoordsIter.coords line.now))
+    × (g.L.CoordsIter.coords it.line.now ≡ g.L.CoordsIter.coords l.fn.line)
+    × (it.line.ghost_name ≡ l.initial.k-iterator.iter.line.ghost_name)
+    × (total_over far (l.k-iterator.count + 1) l.sum
+    (pairs_from it.start (drop (g.L.CoordsIter.position it.line.now) (g.L.CoordsIter.coords it.line.now)))
     ≡ total_of far (g.L.CoordsIter.coords l.fn.line))
