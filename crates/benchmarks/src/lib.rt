@@ -10,8 +10,7 @@ use roots::square_root;
 pub extern "C" fn certified_square_root(x: f64) -> f64
     ensures { result ≡ root_of binary64 x }
 {
-    let root = square_root(x);
-    root
+    square_root(x)
 }
 
 #[unsafe(no_mangle)]

@@ -8,6 +8,11 @@ use Rattle.book.specs.declared.call.Call.{Call}
 use Rattle.book.specs.declared.call.Call.TheVariants.{Append, Densify, Undo, Settle, Open, Row, Close}
 use Rattle.book.specs.Book.{Book, empty_book, appended, refined, undone, settled, opened, rowed, closing}
 
+-- the answer to an edit
+abbrev pub edit_answer : Result (Unit {0}) Fault → Answer
+edit_answer (Ok _) = Done
+edit_answer (Err f) = Refused f
+
 -- what a list of calls has come to: a book, and whether a comparison is open
 pub record Moment (S : Type 0) : Type 0 where
   pub book : Book S

@@ -1,4 +1,7 @@
 // The calls on a kept line as data, and their answers.
+ghost use Rattle.std.specs.Prelude.{◌≡◌};
+ghost use Rattle.book.specs.Calls.{edit_answer};
+
 use points::fault::Fault;
 use points::point::Point;
 
@@ -16,10 +19,22 @@ pub enum Call<'a, S, R> {
 
 // As code, no edit and no open can be written while a comparison is open, and no row and no close while none is.
 // As data such a call is out of turn.
-#[derive(Clone, Copy)]
+#[derive(Clone, Copy, Debug, PartialEq)]
 pub enum Answer {
     Done,
     Refused(Fault),
     Closed(Option<f64>),
     OutOfTurn,
+}
+
+// An edit, an open and a row are done or refused.
+impl From<Result<(), Fault>> for Answer {
+    ghost from_gives = { λ res answer. answer ≡ edit_answer res };
+
+    fn from(res: Result<(), Fault>) -> Answer {
+        match res {
+            Ok(()) => Answer::Done,
+            Err(fault) => Answer::Refused(fault),
+        }
+    }
 }

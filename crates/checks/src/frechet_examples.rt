@@ -1,15 +1,11 @@
 // Examples of the discrete Fréchet distance.
+use crate::at;
 use frechet::distance::frechet_distance;
 use hosts::series::SeriesHost;
-use points::backward::Backward;
 use points::fault::{Cause, Fault, Layer};
-use points::forward::Forward;
 use points::point::Point;
+use points::walk::{Backward, Forward};
 use spaces::euclidean::Euclidean;
-
-fn at(x: f64, y: f64) -> Point {
-    Point { x, y }
-}
 
 fn apart(a: &[Point], b: &[Point], cells: &mut [f64]) -> Result<f64, Fault> {
     let plane = Euclidean { host: SeriesHost };

@@ -1,22 +1,20 @@
 // Examples of the kept line, of its comparison with a reference, and of lists of calls.
+use crate::at;
 use book::call::{Answer, Call};
 use hosts::series::SeriesHost;
 use plan::comparison::calls::open;
 use plan::comparison::{Closed, Refused};
 use plan::run::run;
 use plan::state::State;
-use points::forward::Forward;
+use points::fault::{Cause, Fault, Layer};
 use points::point::Point;
+use points::walk::Forward;
 use spaces::euclidean::Euclidean;
 use std::test::Fail;
 use table::append::append;
 use table::format::format;
 use table::undo::undo;
 use table::{Head, Record};
-
-fn at(x: f64, y: f64) -> Point {
-    Point { x, y }
-}
 
 fn blank() -> Record {
     Record {
@@ -27,15 +25,9 @@ fn blank() -> Record {
     }
 }
 
-// A refusal by its number, and what is no refusal by a number from 100 on.
-fn number(answer: Answer) -> u8 {
-    match answer {
-        Answer::Done => 100,
-        Answer::Refused(fault) => fault.cause.number(),
-        Answer::Closed(None) => 101,
-        Answer::Closed(Some(d)) => { if d == 3.0 { 103 } else { 102 } }
-        Answer::OutOfTurn => 110,
-    }
+// A refusal of a call that takes a table.
+fn refused(cause: Cause) -> Answer {
+    Answer::Refused(Fault::new(cause, Layer::Table))
 }
 
 type Plane = Euclidean<SeriesHost>;
@@ -91,21 +83,31 @@ fn a_list_of_calls_is_answered_in_order(rt: HostRuntime) {
     let left = answers_of(&mut table, &mut answers, &plane, &one, &more, &reference);
     assert!(rt; left.is_none());
     let expected = [
-        8, 100, 110, 100, 110, 6, 100, 100, 11, 103, 100, 100, 6, 100, 100, 8, 100,
+        refused(Cause::NothingToUndo),
+        Answer::Done,
+        Answer::OutOfTurn,
+        Answer::Done,
+        Answer::OutOfTurn,
+        refused(Cause::NoRoom),
+        Answer::Done,
+        Answer::Done,
+        refused(Cause::NoRowLeft),
+        Answer::Closed(Some(3.0)),
+        Answer::Done,
+        Answer::Done,
+        refused(Cause::NoRoom),
+        Answer::Done,
+        Answer::Done,
+        refused(Cause::NothingToUndo),
+        Answer::Done,
     ];
-    for i in 0..17 {
-        assert!(rt; number(answers[i]) == expected[i]);
-    }
+    assert_eq!(rt; answers, expected);
 }
 
 fn kept(table: &mut [Record], points: &[Point]) -> Option<Head> {
-    match format(table) {
-        Err(_) => None,
-        Ok(mut head) => match append(table, &mut head, points) {
-            Ok(()) => Some(head),
-            Err(_) => None,
-        },
-    }
+    let mut head = format(table).ok()?;
+    append(table, &mut head, points).ok()?;
+    Some(head)
 }
 
 #[test]
@@ -126,7 +128,7 @@ fn a_chain_that_runs_in_a_circle_is_refused(rt: HostRuntime) -> Result<(), Fail>
             Err(Fail::new("a circle was opened"))
         }
         Err(Refused { head, fault }) => {
-            assert!(rt; fault.cause.number() == 2);
+            assert!(rt; fault.cause == Cause::TableNotWhole);
             assert!(rt; head.count() == 2);
             Ok(())
         }
@@ -153,7 +155,7 @@ fn a_reference_of_another_count_is_refused(rt: HostRuntime) -> Result<(), Fail> 
             match row {
                 Ok(()) => Err(Fail::new("a row was accepted")),
                 Err(fault) => {
-                    assert!(rt; fault.cause.number() == 12);
+                    assert!(rt; fault.cause == Cause::ReferenceChanged);
                     Ok(())
                 },
             }

@@ -1,18 +1,13 @@
 // Examples on the Euclidean plane.
+use crate::at;
 use hosts::recorded::{Recorded, RecordedHost};
 use hosts::series::SeriesHost;
 use measures::length::length;
-use points::backward::Backward;
 use points::fault::{Cause, Fault, Layer};
-use points::forward::Forward;
-use points::point::Point;
+use points::walk::{Backward, Forward};
 use spaces::euclidean::Euclidean;
 use spaces::space::{Space, distance_within};
 use std::test::Fail;
-
-fn at(x: f64, y: f64) -> Point {
-    Point { x, y }
-}
 
 #[test]
 fn three_and_four_are_five_apart(rt: HostRuntime) {

@@ -1,23 +1,17 @@
 -- The inverse of a number beyond 1 in magnitude is within it, so its arc is the series'.
-use Rattle.std.proofs.Common.{◌≡◌, ℕ, ◌*◌, ◌<◌, ◌≤◌, Bool, true, false, cond, T, eqb, ltb, ℤ, sym, refl, ap, ◌∙◌, arith, lit<, lit≤, eqb→eq, ltb→lt}
+use Rattle.std.proofs.Common.{◌≡◌, ℕ, ◌*◌, ◌<◌, ◌≤◌, Bool, true, false, cond, T, eqb, ℤ, sym, refl, ap, ◌∙◌, arith, lit<, lit≤, eqb→eq, ltb→lt}
+use Rattle.std.proofs.lemmas.Bool.{le-ltb, cond-false}
 use lib.Ieee.{Float, nan, inf, fin, binary64, up, down, unlike, lt, neg, div, round, of_bits}
 use Rattle.points.specs.Rounded.{◌⊖◌, ◌⊘◌, one64}
 use Rattle.hosts.specs.Circle.{half_pi}
 use Rattle.hosts.specs.Arc.{arc, arc_within, ArcRule}
 use Rattle.hosts.proofs.AtMost.{AtMost, at_most}
 
-not_less : (a b : ℕ) → b ≤ a → ltb a b ≡ false
-not_less a b h = go (ltb a b) (ltb→lt a b)
-  where
-    go : (t : Bool) → (T t → a < b) → t ≡ false
-    go true k = let l : a < b = k tt in absurd (omega arith)
-    go false k = refl
-
 not_above : (w : Float) → AtMost 1 w → lt one64 w ≡ false
 unfolding of_bits lt
 not_above nan h = absurd h
 not_above (inf s) h = absurd h
-not_above (fin false m e) h = not_less (1 * down e) (m * up e * 1) (omega arith)
+not_above (fin false m e) h = le-ltb (1 * down e) (m * up e * 1) (omega arith)
 not_above (fin true m e) h = refl
 
 not_below : (w : Float) → AtMost 1 w → lt w (neg one64) ≡ false
@@ -25,7 +19,7 @@ unfolding of_bits neg lt
 not_below nan h = absurd h
 not_below (inf s) h = absurd h
 not_below (fin false m e) h = refl
-not_below (fin true m e) h = not_less (1 * down e) (m * up e * 1) (omega arith)
+not_below (fin true m e) h = le-ltb (1 * down e) (m * up e * 1) (omega arith)
 
 inverse : (s : Bool) (m : ℕ) (e : ℤ) → 1 * down e < m * up e * 1 → AtMost 1 (one64 ⊘ fin s m e)
 unfolding of_bits div
@@ -53,13 +47,11 @@ below (inf s) h = lit≤ tt
 below (fin false m e) h = absurd h
 below (fin true m e) h = inverse true m e (ltb→lt (1 * down e) (m * up e * 1) h)
 
-last : (a b : Bool) (p q z : Float) → a ≡ false → b ≡ false → cond a p (cond b q z) ≡ z
-last a b p q z e f = ap (λ (t : Bool). cond t p (cond b q z)) e ∙ ap (λ (t : Bool). cond t q z) f
-
 within : (w : Float) → AtMost 1 w → arc w ≡ arc_within w
 within w h =
-    last (lt one64 w) (lt w (neg one64)) (half_pi ⊖ arc_within (one64 ⊘ w))
-    (neg half_pi ⊖ arc_within (one64 ⊘ w)) (arc_within w) (not_above w h) (not_below w h)
+    cond-false (lt one64 w) (half_pi ⊖ arc_within (one64 ⊘ w))
+    (cond (lt w (neg one64)) (neg half_pi ⊖ arc_within (one64 ⊘ w)) (arc_within w)) (not_above w h)
+    ∙ cond-false (lt w (neg one64)) (neg half_pi ⊖ arc_within (one64 ⊘ w)) (arc_within w) (not_below w h)
 
 chosen : (a b : Bool) (p q x y z : Float) → (T a → y ≡ x) → (T b → y ≡ x)
     → cond a (p ⊖ x) (cond b (q ⊖ x) z) ≡ cond a (p ⊖ y) (cond b (q ⊖ y) z)

@@ -1,4 +1,3 @@
-pub mod Downward
 pub mod AtMost
 pub mod ArcRule
 pub mod Quarters

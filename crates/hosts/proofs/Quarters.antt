@@ -1,10 +1,11 @@
 -- The number of quarter turns, as a double, as an integer and by fours.
-use Rattle.std.proofs.Common.{◌≡◌, ℕ, ◌-◌, ◌*◌, ◌/◌, ◌^◌, ◌<◌, ◌≤◌, min, Bool, true, false, cond, ◌&&◌, ◌||◌, T, eqb, ltb, ℤ, pos, negsuc, ◌+ℤ◌, ◌*ℤ◌, neg_ℤ, nat_abs, sym, refl, ap, ◌∙◌, subst, le_of_eq, le_of_lt, div-lt_iff_lt-mul, mul-pos, mul-one, mul-div_cancel, arith, lit<, lit≤, eqb→eq, ltb→lt, pow_pos}
+use Rattle.std.proofs.Common.{◌≡◌, ℕ, ◌-◌, ◌*◌, ◌/◌, ◌^◌, ◌<◌, ◌≤◌, min, Bool, true, false, cond, T, ℤ, pos, negsuc, ◌+ℤ◌, ◌*ℤ◌, neg_ℤ, nat_abs, sym, refl, ap, ◌∙◌, subst, le_of_lt, div-lt_iff_lt-mul, mul-pos, mul-one, mul-div_cancel, arith, lit<, lit≤, pow_pos}
 use lib.Ieee.{Float, nan, inf, fin, binary64, unlike, up, down, mul, lt, le, eq, round, to_signed, of_bits}
 use lib.Ieee.Back.{round_whole}
 use lib.Ieee.Exact.{HasValue}
-use lib.Ieee.Fits.{and_l, down_pos}
+use lib.Ieee.Fits.{down_pos}
 use Rattle.std.proofs.lemmas.Int.{ints}
+use Rattle.std.proofs.lemmas.Bool.Decides.{nat_tests}
 use Rattle.std.specs.Float.{round_with, ratio_round_half_up, float_with_sign}
 use Rattle.std.specs.Int.{int_rem_euclid}
 use Rattle.hosts.specs.Circle.{farthest, two_over_pi, signed, Whole, WholeQuarters}
@@ -69,17 +70,9 @@ factor_is : two_over_pi ≡ fin false 5734161139222659 (negsuc 52)
 unfolding of_bits
 factor_is = refl
 
-either : (p q : Bool) (A : Type 0) → (T p → A) → (T q → A) → T (p || q) → A
-either true q A f g t = f tt
-either false q A f g t = g t
-
 le_cap : (m : ℕ) (e : ℤ) → T (le (fin false m e) (fin false 15625 (pos 6))) → m * up e * 1 ≤ 1000000 * down e
 unfolding le lt eq
-le_cap m e t =
-    let n = m * up e * 1 in
-    let d = 1000000 * down e in
-    either (ltb n d) (eqb n d && true) (n ≤ d) (λ h. le_of_lt (ltb→lt n d h))
-    (λ h. le_of_eq (eqb→eq n d (and_l (eqb n d) true h))) t
+le_cap m e t = grind (arith, nat_tests)
 
 times : (s : Bool) (m : ℕ) (e : ℤ) → T (le (fin false m e) (fin false 15625 (pos 6)))
     → AtMost 1000000 (mul binary64 (fin s m e) (fin false 5734161139222659 (negsuc 52)))

@@ -50,8 +50,12 @@ quadrant q = unsigned_abs (int_rem_euclid (to_signed 63 q) (pos 4))
 abbrev pub by_quadrant : ℕ → Float → Float → Float → Float → Float
 by_quadrant q a b c d = cond (q == 0) a (cond (q == 1) b (cond (q == 2) c d))
 
+-- the sine of r after so many quarter turns
+abbrev pub sine_in : ℕ → Float → Float
+sine_in turns r = by_quadrant turns (sine_part r) (cosine_part r) (neg (sine_part r)) (neg (cosine_part r))
+
 abbrev pub sine : Float → Float → Float
-sine q r = by_quadrant (quadrant q) (sine_part r) (cosine_part r) (neg (sine_part r)) (neg (cosine_part r))
+sine q r = sine_in (quadrant q) r
 
 abbrev pub cosine : Float → Float → Float
 cosine q r = by_quadrant (quadrant q) (cosine_part r) (neg (sine_part r)) (neg (cosine_part r)) (sine_part r)

@@ -1,12 +1,11 @@
 // Arc sine and arc tangent of the series host.
-ghost use Rattle.std.specs.Prelude.{◌≡◌, ◌<◌};
+ghost use Rattle.std.specs.Prelude.{◌≡◌, fold, map, reverse};
+ghost use Rattle.std.specs.List.{range_with_len};
+ghost use Rattle.points.specs.Rounded.{◌⊖◌, ◌⊗◌};
 ghost use Rattle.hosts.specs.Arc as Arc;
 
 use crate::length::root;
-
-const PI: f64 = 3.141592653589793;
-
-const HALF_PI: f64 = 1.5707963267948966;
+use std::f64::consts::{FRAC_PI_2, PI};
 
 // 1 / (2k + 1), for k from 0 to 12.
 const QUOTIENTS: [f64; 13] = [
@@ -25,21 +24,18 @@ const QUOTIENTS: [f64; 13] = [
     1.0 / 25.0,
 ];
 
-fn quotient(k: usize) -> f64
-    requires { k < 13 }
-    ensures { result ≡ Arc.quotient k }
+// From `last`, for each quotient from the last to the first: it less z times what is so far.
+fn alternating(z: f64, quotients: &[f64], last: f64) -> f64
+    ensures { result ≡ fold (λ s q. q ⊖ z ⊗ s) last (reverse quotients.now) }
 {
-    QUOTIENTS[k]
+    quotients.iter().rev().fold(last, |s, q| *q - z * s)
 }
 
 fn arc_sum(z: f64) -> f64
-    ensures { result ≡ Arc.arc_sum z }
+    ensures sum { result ≡ Arc.arc_sum z }
+    ensures table { QUOTIENTS ≡ map Arc.quotient (range_with_len 0 13) }
 {
-    let mut s = quotient(12);
-    for k in (0..12).rev() {
-        s = quotient(k) - z * s;
-    }
-    s
+    alternating(z, &QUOTIENTS[..12], QUOTIENTS[12])
 }
 
 // The tangent of half the angle whose tangent is v.
@@ -60,9 +56,9 @@ fn arc(v: f64) -> f64
     ensures { result ≡ Arc.arc v }
 {
     if 1.0 < v {
-        HALF_PI - arc_within(1.0 / v)
+        FRAC_PI_2 - arc_within(1.0 / v)
     } else if v < -1.0 {
-        -HALF_PI - arc_within(1.0 / v)
+        -FRAC_PI_2 - arc_within(1.0 / v)
     } else {
         arc_within(v)
     }
@@ -74,16 +70,14 @@ fn angle(y: f64, x: f64) -> f64
 {
     if 0.0 < x {
         arc(y / x)
+    } else if x < 0.0 && 0.0 <= y {
+        arc(y / x) + PI
     } else if x < 0.0 {
-        if 0.0 <= y {
-            arc(y / x) + PI
-        } else {
-            arc(y / x) - PI
-        }
+        arc(y / x) - PI
     } else if 0.0 < y {
-        HALF_PI
+        FRAC_PI_2
     } else if y < 0.0 {
-        -HALF_PI
+        -FRAC_PI_2
     } else {
         0.0
     }
@@ -92,21 +86,17 @@ fn angle(y: f64, x: f64) -> f64
 pub(crate) fn atan2(y: f64, x: f64) -> Option<f64>
     ensures { result ≡ Arc.atan2_answer y x }
 {
-    if y.is_finite() && x.is_finite() {
-        Some(angle(y, x))
-    } else {
-        None
-    }
+    (y.is_finite() && x.is_finite()).then(|| angle(y, x))
 }
 
 pub(crate) fn asin(x: f64) -> Option<f64>
     ensures { result ≡ Arc.asin_answer x }
 {
-    if !x.is_finite() {
-        None
-    } else if 1.0 < x.abs() {
-        Some(f64::NAN)
-    } else {
-        Some(angle(x, root((1.0 - x) * (1.0 + x))))
-    }
+    x.is_finite().then(|| {
+        if 1.0 < x.abs() {
+            f64::NAN
+        } else {
+            angle(x, root((1.0 - x) * (1.0 + x)))
+        }
+    })
 }

@@ -44,8 +44,5 @@ pub trait Host {
 pub(crate) fn answer(found: Option<f64>) -> Result<f64, Fault>
     ensures { result ≡ answered found }
 {
-    match found {
-        Some(value) => Ok(value),
-        None => Err(Fault::new(Cause::NoAnswer, Layer::Host)),
-    }
+    found.ok_or(Fault::new(Cause::NoAnswer, Layer::Host))
 }

@@ -15,7 +15,7 @@ pub(crate) fn root(x: f64) -> f64
 pub(crate) fn sqrt(x: f64) -> Option<f64>
     ensures { result ≡ Length.sqrt_answer x }
 {
-    if x.is_finite() { Some(root(x)) } else { None }
+    x.is_finite().then(|| root(x))
 }
 
 // By the larger magnitude and the smaller, so that no square overflows.
@@ -34,9 +34,8 @@ fn scaled(larger: f64, smaller: f64) -> f64
 pub(crate) fn hypot(x: f64, y: f64) -> Option<f64>
     ensures { result ≡ Length.hypot_answer x y }
 {
-    if x.is_nan() || y.is_nan() {
-        return None;
-    }
-    let (a, b) = (x.abs(), y.abs());
-    Some(if a < b { scaled(b, a) } else { scaled(a, b) })
+    (!x.is_nan() && !y.is_nan()).then(|| {
+        let (a, b) = (x.abs(), y.abs());
+        if a < b { scaled(b, a) } else { scaled(a, b) }
+    })
 }

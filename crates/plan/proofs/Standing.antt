@@ -14,7 +14,8 @@ use Rattle.table.proofs.Lines.{line_count}
 use Rattle.plan.specs.declared.comparison.Comparison.{Comparison}
 use Rattle.plan.specs.declared.state.State.TheVariants.{Comparing}
 use Rattle.plan.specs.Rows.{progress, row_called, Calls, RowOutcome, closes}
-use Rattle.plan.specs.Runs.{edit_answer, Stepped}
+use Rattle.book.specs.Calls.{edit_answer}
+use Rattle.plan.specs.Runs.{Stepped}
 use Rattle.plan.specs.Stands.{Kept, RowsStand, RowDoes}
 use Rattle.plan.proofs.Asked.{came_to, one_more, Reached, Asks, row_asks}
 use Rattle.plan.proofs.Edits.{good_table}

@@ -12,7 +12,8 @@ use Rattle.table.specs.declared.Record.{Record}
 use Rattle.table.specs.declared.Head.{Head}
 use Rattle.plan.specs.declared.state.State.{State}
 use Rattle.plan.specs.declared.state.State.TheVariants.{Editing}
-use Rattle.plan.specs.Runs.{edit_answer, Stepped}
+use Rattle.book.specs.Calls.{edit_answer}
+use Rattle.plan.specs.Runs.{Stepped}
 use Rattle.plan.specs.Stands.{Does, Stands, StandsAt, is_comparing}
 
 module _ {S R : Type 0} (far : S → Point → Point → Result Float Fault)
@@ -64,3 +65,16 @@ module _ {S R : Type 0} (far : S → Point → Point → Result Float Fault)
   edit_step t xs h a (Ok x) e u done same idle =
       accept t xs (Editing h) a u.0 u.1 (e ∙ sym done) (idle ∙ sym same) u.2
   edit_step t xs h a (Err f) e u done same idle = deny t xs (Editing h) a f u.0 e idle u.1
+
+-- a call out of turn
+module _ {S R : Type 0} (far : S → Point → Point → Result Float Fault)
+    (ratio : S → Point → Point → Float → Result Point Fault) (coords : R → List Point) (n cells : ℕ)
+    (at : Moment S) (c : Call S R) where
+  pub out_of_turn : in_turn far ratio coords at.comparing c ≡ false → (t : List Record) (xs : List Float) (s : State R)
+      (a : Answer) → a ≡ OutOfTurn → StandsAt coords at t xs s → Stepped far ratio coords n cells at c t xs s a
+  out_of_turn turn t xs s a told st = record {
+    told = told ∙ sym (ap (λ v. cond v (answer_of far ratio coords (tells far ratio coords at.book c)
+        (called far ratio coords n cells at.book c)) OutOfTurn) turn);
+    stands = subst (λ v. StandsAt coords v t xs s)
+        (sym (ap (λ v. cond v (moment_of far ratio coords at c (called far ratio coords n cells at.book c)) at) turn)) st;
+  }

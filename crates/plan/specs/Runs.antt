@@ -1,23 +1,17 @@
 -- What calls, one by one and in lists, do to a table and what they answer, by the line book.
-use Rattle.std.specs.Prelude.{◌≡◌, ℕ, ◌<◌, ◌≤◌, ◌⊎◌, List, length, take, drop, Ok, Err, Result, Float}
+use Rattle.std.specs.Prelude.{◌≡◌, ℕ, ◌<◌, ◌≤◌, ◌⊎◌, List, length, take, drop, Result, Float}
 use Rattle.points.specs.Faults.{raised}
 use Rattle.points.specs.declared.fault.Cause.TheVariants.{NoRoom}
 use Rattle.points.specs.declared.fault.Fault.{Fault}
 use Rattle.points.specs.declared.fault.Layer.TheVariants.{Table}
 use Rattle.points.specs.declared.point.Point.{Point}
 use Rattle.book.specs.declared.call.Answer.{Answer}
-use Rattle.book.specs.declared.call.Answer.TheVariants.{Done, Refused}
 use Rattle.book.specs.declared.call.Call.{Call}
 use Rattle.book.specs.Calls.{Moment, start, next, answer, played, answers}
 use Rattle.table.specs.declared.Record.{Record}
 use Rattle.table.specs.Whole.{Sized, BadLength}
 use Rattle.plan.specs.declared.state.State.{State}
 use Rattle.plan.specs.Stands.{StandsAt}
-
--- the answer to an edit
-abbrev pub edit_answer : Result (Unit {0}) Fault → Answer
-edit_answer (Ok _) = Done
-edit_answer (Err f) = Refused f
 
 module _ {S R : Type 0} (far : S → Point → Point → Result Float Fault)
     (ratio : S → Point → Point → Float → Result Point Fault) (coords : R → List Point) where

@@ -28,8 +28,8 @@ fn play<S: Space, R: CoordsIter + Copy>(
         ≡ drop (length calls.now) answers.old }
 {
     let mut state = state;
-    for k in 0..calls.len() {
-        let (next, answer) = turn(table, cells, state, &calls[k]);
+    for (k, call) in calls.iter().enumerate() {
+        let (next, answer) = turn(table, cells, state, call);
         answers[k] = answer;
         state = next;
     }

@@ -1,7 +1,7 @@
 // One call of a list, through the call that it names.
 ghost use Rattle.std.specs.Prelude.{◌≡◌, min, length, take, drop};
 ghost use Rattle.plan.specs.Rows.{RowOutcome};
-ghost use Rattle.plan.specs.Runs.{edit_answer, Steps};
+ghost use Rattle.plan.specs.Runs.{Steps};
 
 use crate::comparison::calls::open;
 use crate::comparison::{Closed, Comparison, Refused};
@@ -16,15 +16,6 @@ use table::settle::settle;
 use table::undo::undo;
 use table::{Head, Record};
 
-fn edit_answer(res: Result<(), Fault>) -> Answer
-    ensures { result ≡ edit_answer res }
-{
-    match res {
-        Ok(()) => Answer::Done,
-        Err(fault) => Answer::Refused(fault),
-    }
-}
-
 // A call while no comparison is open.
 fn edit<S: Space, R: CoordsIter + Copy>(
     table: &mut [Record],
@@ -36,30 +27,20 @@ fn edit<S: Space, R: CoordsIter + Copy>(
         call.now table.new cells.now result.0 result.1 }
 {
     let mut head = head;
-    match call {
-        Call::Append(points) => {
-            let answer = edit_answer(append(table, &mut head, points));
-            (State::Editing(head), answer)
+    let answer = match call {
+        Call::Append(points) => append(table, &mut head, points).into(),
+        Call::Densify(space, maximum) => densify(table, &mut head, *space, *maximum).into(),
+        Call::Undo => undo(table, &mut head).into(),
+        Call::Settle => settle(table, &mut head).into(),
+        Call::Open(reference) => {
+            return match open(table, head, *reference) {
+                Ok(comparison) => (State::Comparing(comparison, **reference), Answer::Done),
+                Err(Refused { head, fault }) => (State::Editing(head), Answer::Refused(fault)),
+            };
         }
-        Call::Densify(space, maximum) => {
-            let answer = edit_answer(densify(table, &mut head, *space, *maximum));
-            (State::Editing(head), answer)
-        }
-        Call::Undo => {
-            let answer = edit_answer(undo(table, &mut head));
-            (State::Editing(head), answer)
-        }
-        Call::Settle => {
-            let answer = edit_answer(settle(table, &mut head));
-            (State::Editing(head), answer)
-        }
-        Call::Open(reference) => match open(table, head, *reference) {
-            Ok(comparison) => (State::Comparing(comparison, **reference), Answer::Done),
-            Err(Refused { head, fault }) => (State::Editing(head), Answer::Refused(fault)),
-        },
-        Call::Row(_, _) => (State::Editing(head), Answer::OutOfTurn),
-        Call::Close => (State::Editing(head), Answer::OutOfTurn),
-    }
+        Call::Row(_, _) | Call::Close => Answer::OutOfTurn,
+    };
+    (State::Editing(head), answer)
 }
 
 // A row that is given the first `count` cells, or all if there are fewer.
@@ -107,7 +88,7 @@ fn compare<S: Space, R: CoordsIter + Copy>(
                 cells,
                 *count,
             );
-            (State::Comparing(comparison, reference), edit_answer(result))
+            (State::Comparing(comparison, reference), result.into())
         }
         Call::Close => {
             let Closed { head, answer } = comparison.close();

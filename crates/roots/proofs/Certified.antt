@@ -7,7 +7,7 @@ use lib.Ieee.Fits.{round_is}
 use lib.Ieee.Nearest.{closest, closest_same}
 use Rattle.std.specs.Float.Ieee.{root_twice}
 use Rattle.std.specs.Float.{sqrt}
-use Rattle.roots.specs.Certificate.{NearestWhole, Parts}
+use Rattle.roots.specs.Certificate.{NearestWhole}
 use Rattle.roots.proofs.WholeRoots.{at_most, at_least, reaches}
 use Rattle.roots.proofs.Doubles.{sqrt_is}
 use Rattle.roots.proofs.Patterns.{read, packed}
@@ -203,44 +203,43 @@ one_less d zero Q lo hi = absurd (omega arith)
 one_less d (suc p) Q lo hi =
     subst (NearestWhole d) {x = p} (omega arith) (record { above = omega arith; below = omega arith })
 
--- b is the pattern of a normal double above 0, and d its radicand
-module _ (b k m d : ℕ) (P : Parts b k m) (e : d ≡ m * (1 + k % 2) * 2 ^ 52) where
+-- d is the radicand of the digits m at the exponent k, and q is certified as its root
+module _ (k m d q : ℕ) (A : 2 ^ 52 ≤ m) (B : m < 2 ^ 53) (e : d ≡ m * (1 + k % 2) * 2 ^ 52)
+    (h : NearestWhole d q) where
   is_radicand : d ≡ radicand m k
   is_radicand = e ∙ widened m k
 
-  pub bounded : (2 ^ 104 ≤ d) × (d ≤ (2 ^ 53 - 1) * 2 ^ 53)
-  bounded =
-      subst (λ (x : ℕ). (2 ^ 104 ≤ x) × (x ≤ (2 ^ 53 - 1) * 2 ^ 53)) (sym is_radicand)
-      (bounds m k P.low P.high)
-
--- q is certified as the root of d
-module _ (b k m d q : ℕ) (P : Parts b k m) (e : d ≡ m * (1 + k % 2) * 2 ^ 52) (h : NearestWhole d q) where
   pub has_53_digits : (2 ^ 52 ≤ q) × (q < 2 ^ 53)
-  has_53_digits = go q h.above h.below
+  has_53_digits =
+      let w = bounds m k A B in
+      let r = is_radicand in
+      go q h.above h.below (omega arith) (omega arith)
     where
-      go : (q : ℕ) → q * q < d + q → d ≤ q * q + q → (2 ^ 52 ≤ q) × (q < 2 ^ 53)
-      go zero lo hi = absurd (omega (arith, (bounded b k m d P e).0))
-      go (suc p) lo hi =
-          let w = bounded b k m d P e in
-          let i = in_range d p w.0 w.1 (omega arith) (omega arith) in
+      go : (q : ℕ) → q * q < d + q → d ≤ q * q + q → 2 ^ 104 ≤ d → d ≤ (2 ^ 53 - 1) * 2 ^ 53
+          → (2 ^ 52 ≤ q) × (q < 2 ^ 53)
+      go zero lo hi l u = absurd (omega arith)
+      go (suc p) lo hi l u =
+          let i = in_range d p l u (omega arith) (omega arith) in
           omega arith
 
-  pattern_root : of_bits binary64 ((k / 2 + 511) * 2 ^ 52 + q) ≡ sqrt binary64 (of_bits binary64 b)
-  pattern_root =
+  pattern_root : (b : ℕ) → k ≤ 2045 → b ≡ k * 2 ^ 52 + m
+      → of_bits binary64 ((k / 2 + 511) * 2 ^ 52 + q) ≡ sqrt binary64 (of_bits binary64 b)
+  pattern_root b K y =
       let p = q - 1 in
       let z : p + 1 ≡ q = omega (arith, has_53_digits.0) in
-      let r : d ≡ radicand m k = is_radicand b k m d P e in
+      let r : d ≡ radicand m k = is_radicand in
       let n : NearestWhole d (p + 1) = subst (NearestWhole d) (sym z) h in
       let lo : p * p + p < radicand m k = omega arith in
       let hi : radicand m k ≤ (p + 1) * (p + 1) + (p + 1) = omega arith in
       ap (λ (x : ℕ). of_bits binary64 ((k / 2 + 511) * 2 ^ 52 + x)) (sym z)
-      ∙ certified m k p P.low P.high P.range lo hi
-      ∙ ap (λ (x : ℕ). sqrt binary64 (of_bits binary64 x)) (sym P.pattern)
+      ∙ certified m k p A B K lo hi
+      ∙ ap (λ (x : ℕ). sqrt binary64 (of_bits binary64 x)) (sym y)
 
-  pub is_root : (x : Float) (j : ℕ) → T (fits binary64 x) → b ≡ to_bits binary64 x → j ≡ (k / 2 + 511) * 2 ^ 52
-      → of_bits binary64 (j + q) ≡ sqrt binary64 x
-  is_root x j f y w =
+  -- where x has the pattern b, and j is the exponent of the root
+  pub is_root : (x : Float) (b j : ℕ) → T (fits binary64 x) → b ≡ to_bits binary64 x → k ≤ 2045
+      → b ≡ k * 2 ^ 52 + m → j ≡ (k / 2 + 511) * 2 ^ 52 → of_bits binary64 (j + q) ≡ sqrt binary64 x
+  is_root x b j f y K n w =
       ap (λ (z : ℕ). of_bits binary64 (z + q)) w
-      ∙ pattern_root
+      ∙ pattern_root b K n
       ∙ ap (λ (z : ℕ). sqrt binary64 (of_bits binary64 z)) y
       ∙ ap (sqrt binary64) (of_bits-to_bits binary64 x f)

@@ -1,7 +1,7 @@
 -- A double as a whole number of steps, and the library's root by that number.
 use Rattle.std.proofs.Common.{◌≡◌, ℕ, zero, suc, ◌+◌, ◌-◌, ◌*◌, ◌/◌, ◌%◌, ◌^◌, ◌<◌, ◌≤◌, Bool, true, false, ◌&&◌, T, eqb, ltb, leb, ℤ, pos, negsuc, sym, ap, ◌∙◌, inl, inr, true≢false, le_of_eq, mul-le-mul_right, mul_assoc, eq-zero-or-pos, mul-lt-mul_of_pos_right, mul-pos, lt_of_not-le, zero-mul, mul-one, mul_right_comm, not-le_of_lt, div-one, mul-div_cancel, arith, ltb→lt, leb→le, pow_pos, pow-add}
 use native.Mathlib.Nat.{zero-div}
-use lib.Pow.{pow-lt}
+use lib.Pow.{pow-lt, shl-shr}
 use lib.Ieee.{Float, nan, inf, fin, binary64, up, down, round, fits}
 use lib.Ieee.Exact.{HasValue}
 use lib.Ieee.Fits.{and_l, and_r, up_pos, down_pos}
@@ -12,20 +12,18 @@ use Rattle.roots.specs.Nearest.{steps}
 
 -- ---- powers of 2
 
-div_pow : (a l k : ℕ) → k ≤ l → a * 2 ^ l / 2 ^ k ≡ a * 2 ^ (l - k)
-div_pow a l k h =
-    let e : l ≡ l - k + k = omega arith in
-    ap (λ (z : ℕ). a * z / 2 ^ k) (ap (λ (z : ℕ). 2 ^ z) e ∙ pow-add 2 (l - k) k)
-    ∙ ap (λ (z : ℕ). z / 2 ^ k) (sym (mul_assoc a (2 ^ (l - k)) (2 ^ k)))
-    ∙ mul-div_cancel (a * 2 ^ (l - k)) (pow_pos k)
-
-exact_pow : (a l k : ℕ) → k ≤ l → a * 2 ^ l ≡ a * 2 ^ l / 2 ^ k * 2 ^ k
-exact_pow a l k h =
+pub split_pow : (a l k : ℕ) → k ≤ l → a * 2 ^ l ≡ a * 2 ^ (l - k) * 2 ^ k
+split_pow a l k h =
     let e : l ≡ l - k + k = omega arith in
     ap (λ (z : ℕ). a * 2 ^ z) e
     ∙ ap (λ (z : ℕ). a * z) (pow-add 2 (l - k) k)
     ∙ sym (mul_assoc a (2 ^ (l - k)) (2 ^ k))
-    ∙ sym (ap (λ (z : ℕ). z * 2 ^ k) (div_pow a l k h))
+
+div_pow : (a l k : ℕ) → k ≤ l → a * 2 ^ l / 2 ^ k ≡ a * 2 ^ (l - k)
+div_pow a l k h = ap (λ (z : ℕ). z / 2 ^ k) (split_pow a l k h) ∙ shl-shr (a * 2 ^ (l - k)) k
+
+exact_pow : (a l k : ℕ) → k ≤ l → a * 2 ^ l ≡ a * 2 ^ l / 2 ^ k * 2 ^ k
+exact_pow a l k h = split_pow a l k h ∙ sym (ap (λ (z : ℕ). z * 2 ^ k) (div_pow a l k h))
 
 exponent : (k l : ℕ) → 2 ^ k ≤ 2 ^ l → k ≤ l
 exponent k l h = elim (eq-zero-or-pos (k - l)) [

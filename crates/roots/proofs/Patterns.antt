@@ -1,19 +1,11 @@
 -- The pattern of a normal double above 0, and its value.
-use Rattle.std.proofs.Common.{◌≡◌, ℕ, suc, ◌+◌, ◌-◌, ◌*◌, ◌/◌, ◌%◌, ◌^◌, ◌<◌, ◌≤◌, Bool, false, cond, not, T, eqb, leb, sym, ap, ◌∙◌, subst, le_trans, lt_of_lt_of_le, mul-div_cancel, arith, pow_mono, shl_lt, lt-ltb, ne_eqb}
-use native.Mathlib.Nat.{mod-le}
-use lib.Arith.{le→nltb}
+use Rattle.std.proofs.Common.{◌≡◌, ℕ, suc, ◌+◌, ◌-◌, ◌*◌, ◌/◌, ◌%◌, ◌^◌, ◌<◌, ◌≤◌, Bool, false, cond, T, eqb, leb, sym, ap, ◌∙◌, subst, lt_of_lt_of_le, mul-div_cancel, arith, pow_mono, shl_lt, lt-ltb, ne_eqb}
 use borrow.Author.Tests.{lt-leb}
 use lib.Ieee.{Float, nan, inf, fin, binary64, up, down, size, odd, units, fits, of_bits, of_fields, to_bits, top}
-use lib.Ieee.{hid, nan_bits}
+use lib.Ieee.{hid}
 use lib.Ieee.Fits.{odd-fits, down_pos}
-use lib.Ieee.Bits.{of_bits-to_bits, of_bits-fits, nan_bits_above}
+use lib.Ieee.Bits.{of_bits-to_bits, of_bits-fits}
 use lib.Ieee.Exact.{HasValue, odd_sign, units_val}
-
--- up to that of infinity no pattern is a NaN's
-pub up_to_infinity : (n : ℕ) → n ≤ 2047 * 2 ^ 52 → T (not (nan_bits binary64 n))
-up_to_infinity n h =
-    subst (λ (b : Bool). T (not b)) (sym (nan_bits_above binary64 n))
-    (le→nltb (2047 * 2 ^ 52) (n % top binary64) (le_trans (mod-le n (top binary64)) h))
 
 -- ---- values
 

@@ -7,6 +7,8 @@ use lib.Ieee.{binary64, nearest, size}
 use lib.Ieee.Scale.{grid}
 use lib.Ieee.Digits.{size_reaches}
 use lib.Ieee.Nearest.{closest, nearest-ge}
+use lib.Ieee.Order.{kept, drop}
+use Rattle.roots.proofs.Doubles.{split_pow}
 
 -- ---- the whole number closest to a fraction a / b is at most a half off it
 
@@ -132,22 +134,12 @@ small n b m t k B M l e =
     inr (2 ^ 52, f, le_trans ((le-div_iff_mul-le u).1 h) (nearest-ge (n / (b * 2 ^ k)) o), h)
 
 large : (m t k : ℕ) → k ≤ t → (j : ℕ) × (m * 2 ^ t ≡ j * 2 ^ k)
-large m t k l =
-    let e : t ≡ t - k + k = omega arith in (
-      m * 2 ^ (t - k),
-      ap (λ (z : ℕ). m * 2 ^ z) e
-          ∙ ap (λ (z : ℕ). m * z) (pow-add 2 (t - k) k)
-          ∙ sym (mul_assoc m (2 ^ (t - k)) (2 ^ k)),
-    )
-
--- how many binary digits are dropped where the fraction n / b is rounded
-abbrev drop : ℕ → ℕ → ℕ
-drop n b = size (n / b) - 53
+large m t k l = (m * 2 ^ (t - k), split_pow m t k l)
 
 kind : (n b m t : ℕ) → 0 < b → m < 2 ^ 53
-    → Kind n (closest n (b * 2 ^ drop n b)) (b * 2 ^ drop n b) (2 ^ drop n b) (m * 2 ^ t)
+    → Kind n (kept 53 n b) (b * 2 ^ drop 53 n b) (2 ^ drop 53 n b) (m * 2 ^ t)
 kind n b m t B M =
-    let k = drop n b in
+    let k = drop 53 n b in
     elim (eq-zero-or-pos (k - t)) [
       | inl z ↦ inl (large m t k (omega arith))
       | inr p ↦ small n b m t k B M (omega arith) (omega arith)
@@ -159,7 +151,7 @@ pub nearer_above : (a b m t : ℕ) → 0 < b → m < 2 ^ 53 → grid binary64 a 
     → 2 * (a * 2 ^ 1074) ≤ (grid binary64 a b + m * 2 ^ t) * b
 nearer_above a b m t B M h =
     let n = a * 2 ^ 1074 in
-    let k = drop n b in
+    let k = drop 53 n b in
     above n b (closest n (b * 2 ^ k)) (2 ^ k) (m * 2 ^ t) (closest_high n (b * 2 ^ k) (mul-pos B (pow_pos k)))
     (kind n b m t B M) h
 
@@ -167,14 +159,14 @@ pub nearer_below : (a b m t : ℕ) → 0 < b → m < 2 ^ 53 → m * 2 ^ t < grid
     → (grid binary64 a b + m * 2 ^ t) * b ≤ 2 * (a * 2 ^ 1074)
 nearer_below a b m t B M h =
     let n = a * 2 ^ 1074 in
-    let k = drop n b in
+    let k = drop 53 n b in
     under n b (closest n (b * 2 ^ k)) (2 ^ k) (m * 2 ^ t) (closest_low n (b * 2 ^ k)) (kind n b m t B M) h
 
 -- ---- it is not far above the fraction
 
-grid_near : (n b : ℕ) → 2 * (closest n (b * 2 ^ drop n b) * 2 ^ drop n b * b) ≤ 3 * n + b
+grid_near : (n b : ℕ) → 2 * (kept 53 n b * 2 ^ drop 53 n b * b) ≤ 3 * n + b
 grid_near n b =
-    let k = drop n b in
+    let k = drop 53 n b in
     let q = closest n (b * 2 ^ k) in
     let c : 2 * (q * (b * 2 ^ k)) ≤ 2 * n + b * 2 ^ k = closest_low n (b * 2 ^ k) in
     let m : 2 ^ k * b ≡ b * 2 ^ k = mul_comm (2 ^ k) b in

@@ -1,21 +1,8 @@
 -- The whole part of a root, as the library computes it.
-use Rattle.std.proofs.Common.{◌≡◌, ℕ, zero, suc, ◌+◌, ◌*◌, ◌/◌, ◌^◌, ◌<◌, ◌≤◌, Bool, true, false, cond, eqb, leb, sym, refl, le_trans, le_of_eq, mul-le-mul, lt_of_not-le, arith, eqb-true, leb-false, leb-true}
+use Rattle.std.proofs.Common.{◌≡◌, ℕ, ◌+◌, ◌*◌, ◌<◌, ◌≤◌, Bool, true, false, cond, eqb, sym, refl, le_trans, le_of_eq, mul-le-mul, lt_of_not-le, arith, eqb-true}
 use lib.Ieee.{size}
-use lib.Ieee.Digits.{size-lt}
+use lib.Ieee.Root.{whole_part}
 use Rattle.std.specs.Float.Ieee.{root_below, root_twice}
-
-abbrev Root : ℕ → ℕ → Type 0
-Root s n = (s * s ≤ n) × (n < (s + 1) * (s + 1))
-
-digit : (r n : ℕ) (b : Bool) → Root r (n / 4) → leb ((2 * r + 1) * (2 * r + 1)) n ≡ b
-    → Root (cond b (2 * r + 1) (2 * r)) n
-digit r n true h e = (leb-true _ _ e, omega (arith, h.1))
-digit r n false h e = (omega (arith, h.0), leb-false _ _ e)
-
-whole : (k n : ℕ) → n < 2 ^ k → Root (root_below k n) n
-unfolding root_below
-whole zero n h = omega arith
-whole (suc k) n h = digit (root_below k (n / 4)) n _ (whole k (n / 4) (omega arith)) refl
 
 -- ---- 2 t against twice the root of n, by t * t against n
 
@@ -37,7 +24,7 @@ at_most n t h = go (eqb (s * s) n) (eqb-true (s * s) n) h
         let r = root_below (size n) n in
         let a : r + 1 ≤ t = omega arith in
         let b : (r + 1) * (r + 1) ≤ t * t = mul-le-mul a a in
-        omega (arith, (whole (size n) n (size-lt n)).1)
+        omega (arith, (whole_part n).1)
 
 pub at_least : (n t : ℕ) → 2 * t ≤ root_twice n → t * t ≤ n
 unfolding root_twice
@@ -48,7 +35,7 @@ at_least n t h = go (eqb (root_below (size n) n * root_below (size n) n) n) h
         let r = root_below (size n) n in
         let c : cond b 0 1 ≤ 1 = elim b as (λ v. cond v 0 1 ≤ 1) [ true ↦ omega arith | false ↦ omega arith ] in
         let a : t ≤ r = omega arith in
-        le_trans (mul-le-mul a a) (whole (size n) n (size-lt n)).0
+        le_trans (mul-le-mul a a) (whole_part n).0
 
 pub reaches : (n t : ℕ) → t * t ≤ n → 2 * t ≤ root_twice n
 unfolding root_twice
@@ -56,5 +43,5 @@ reaches n t h =
     let r = root_below (size n) n in
     let a : t < r + 1 = lt_of_not-le (λ (g : r + 1 ≤ t).
     let b : (r + 1) * (r + 1) ≤ t * t = mul-le-mul g g in
-    omega (arith, (whole (size n) n (size-lt n)).1)) in
+    omega (arith, (whole_part n).1)) in
     omega arith

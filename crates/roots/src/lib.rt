@@ -2,11 +2,11 @@
 // right and certify.
 #![tactic(auto)]
 
-ghost use Rattle.std.specs.Prelude.{◌≡◌, ◌+◌, ◌*◌, ◌/◌, ◌%◌, ◌^◌, ◌<◌, ◌≤◌, T, IfSome};
+ghost use Rattle.std.specs.Prelude.{◌≡◌, ◌+◌, ◌*◌, ◌/◌, ◌%◌, ◌^◌, ◌<◌, ◌≤◌, T, IfSome, to_bits};
 ghost use Rattle.std.specs.Float.{binary64};
 ghost use Rattle.std.specs.Float.Ieee.Positive.{positive};
 ghost use Rattle.std.specs.Float as Floats;
-ghost use Rattle.roots.specs.Certificate.{Parts, NearestWhole};
+ghost use Rattle.roots.specs.Certificate.{NearestWhole};
 ghost use Rattle.roots.specs.Nearest.{NearestRoot};
 ghost use Rattle.roots.specs.Special.{SpecialRoot};
 
@@ -20,37 +20,39 @@ const INFINITY: u64 = 0x7ff0_0000_0000_0000;
 struct Normal {
     exponent: u64,
     significand: u64,
+    ghost digits: { 2 ^ 52 ≤ significand × significand < 2 ^ 53 },
+    ghost finite: { exponent ≤ 2045 },
 }
 
-// The parts of the double that has the pattern `bits`, where it is normal and above 0.
-fn parts(bits: u64) -> Option<Normal>
-    ensures { IfSome result (λ x. Parts bits x.exponent x.significand) }
-{
-    if bits < SMALLEST_NORMAL || INFINITY <= bits {
-        return None;
+impl Normal {
+    // The double that has the pattern `bits`, where it is normal and above 0.
+    fn from_pattern(bits: u64) -> Option<Normal>
+        ensures { IfSome result (λ x. bits ≡ x.exponent * 2 ^ 52 + x.significand) }
+    {
+        if !(SMALLEST_NORMAL..INFINITY).contains(&bits) {
+            return None;
+        }
+        let exponent = bits / SMALLEST_NORMAL - 1;
+        Some(Normal {
+            exponent,
+            significand: bits - exponent * SMALLEST_NORMAL,
+        })
     }
-    let exponent = bits / SMALLEST_NORMAL - 1;
-    Some(Normal {
-        exponent,
-        significand: bits - exponent * SMALLEST_NORMAL,
-    })
-}
 
-// The significand moved to an even exponent, which can be halved, and to 105 or 106 binary digits, so
-// that its root has 53.
-fn radicand(x: Normal) -> u128
-    requires { x.significand < 2 ^ 53 }
-    ensures { result ≡ x.significand * (1 + x.exponent % 2) * 2 ^ 52 }
-{
-    (x.significand * (1 + x.exponent % 2)) as u128 * SMALLEST_NORMAL as u128
-}
+    // The significand moved to an even exponent, which can be halved, and to 105 or 106 binary digits, so
+    // that its root has 53.
+    fn radicand(self) -> u128
+        ensures { result ≡ self.significand * (1 + self.exponent % 2) * 2 ^ 52 }
+    {
+        u128::from(self.significand * (1 + self.exponent % 2)) * u128::from(SMALLEST_NORMAL)
+    }
 
-// The exponent of the root, as the part of its pattern to which the 53 digits are added.
-fn root_exponent(exponent: u64) -> u64
-    requires { exponent ≤ 2045 }
-    ensures { result ≡ (exponent / 2 + 511) * 2 ^ 52 }
-{
-    (exponent / 2 + 511) * SMALLEST_NORMAL
+    // The exponent of the root, as the part of its pattern to which the 53 digits are added.
+    fn root_exponent(self) -> u64
+        ensures { result ≡ (self.exponent / 2 + 511) * 2 ^ 52 }
+    {
+        (self.exponent / 2 + 511) * SMALLEST_NORMAL
+    }
 }
 
 // A number near the root of x, whose pattern is `bits`. No proof says how near: a guess that is far
@@ -77,8 +79,9 @@ fn nearest_whole_root(square: u128, near: u64) -> Option<u64>
         return None;
     }
     // n is nearest where n^2 - n < square <= n^2 + n. In `rest` the bounds of the three n are small.
-    let rest = (square + (3 * near) as u128).wrapping_sub(near as u128 * near as u128);
-    if rest <= 2 || ((6 * near + 2) as u128) < rest {
+    let rest = (square + u128::from(3 * near)).wrapping_sub(u128::from(near) * u128::from(near));
+    // Two comparisons: `contains` of a range of `u128` makes a root of 15.0 ns take 16.4.
+    if rest <= 2 || u128::from(6 * near + 2) < rest {
         return None;
     }
     let rest = rest as u64;
@@ -91,32 +94,23 @@ fn nearest_whole_root(square: u128, near: u64) -> Option<u64>
     }
 }
 
+// The pattern of x, where x is a number.
+fn pattern(x: f64) -> Option<u64>
+    ensures { IfSome result (λ b. b ≡ to_bits binary64 x) }
+{
+    (!x.is_nan()).then(|| x.to_bits())
+}
+
 // The root of a normal x above 0, where the guess is good enough.
 fn certified_root(x: f64) -> Option<f64>
     ensures { IfSome result (λ y. y ≡ Floats.sqrt binary64 x) }
 {
-    if x.is_nan() {
-        return None;
-    }
-    let bits = x.to_bits();
-    let normal = parts(bits)?;
-    let base = root_exponent(normal.exponent);
-    let near = guess(x, bits);
-    if near.is_nan() {
-        return None;
-    }
-    let digits = nearest_whole_root(radicand(normal), near.to_bits().wrapping_sub(base))?;
+    let bits = pattern(x)?;
+    let normal = Normal::from_pattern(bits)?;
+    let base = normal.root_exponent();
+    let near = pattern(guess(x, bits))?;
+    let digits = nearest_whole_root(normal.radicand(), near.wrapping_sub(base))?;
     Some(f64::from_bits(base + digits))
-}
-
-// The certified root, and the library's where there is none.
-fn rounded_root(x: f64) -> f64
-    ensures { result ≡ Floats.sqrt binary64 x }
-{
-    match certified_root(x) {
-        Some(root) => root,
-        None => x.sqrt(),
-    }
 }
 
 // The square root of x, as `x.sqrt()` has it: the double nearest to the exact root.
@@ -125,5 +119,5 @@ pub fn square_root(x: f64) -> f64
     ensures nearest { T (positive x) → NearestRoot x result }
     ensures others { SpecialRoot x result }
 {
-    rounded_root(x)
+    certified_root(x).unwrap_or_else(|| x.sqrt())
 }

@@ -3,12 +3,13 @@ use Rattle.std.proofs.Common.{◌≡◌, ℕ, ◌+◌, ◌<◌, ◌≤◌, List,
 use Rattle.points.specs.declared.point.Point.{Point}
 use Rattle.table.specs.declared.Record.{Record}
 use Rattle.table.specs.declared.Head.{Head}
-use Rattle.table.specs.Append.{new_nodes, last_index, Appended, HasRoom}
+use Rattle.points.specs.Finite.{first_unfit}
+use Rattle.table.specs.Append.{new_nodes, last_index, AppendOk, HasRoom}
 use Rattle.table.specs.Chains.{Node, held_in}
 use Rattle.table.specs.Links.{filled, inserted_table, inserted_head, newest_head}
 use Rattle.points.specs.Limits.{last_edit}
 use Rattle.table.specs.Outcomes.{Frame}
-use Rattle.table.specs.Whole.{Whole, line_of, free_of}
+use Rattle.table.specs.Whole.{Checked, Whole, line_of, free_of}
 use Rattle.table.proofs.Segments.{AllHeld, node, node_same, all_join, all_map, length_nodes}
 use Rattle.table.proofs.Places.{Place, Ended, before_inside}
 use Rattle.table.proofs.Moves.{place_insert}
@@ -121,17 +122,26 @@ module _ (t0 : List Record) (h0 : Head) (ps0 : List Point) where
         → t' ≡ t → h' ≡ h → before' ≡ before → ps' ≡ ps → Appending t' h' before' ps'
     append_at t' h' before' ps' p1 p2 p3 p4 = rw (p1, p2, p3, p4) u
 
-    pub append_end : ps ≡ [] → h0.newest < last_edit → Appended t0 h0 ps0 t (newest_head h (h0.newest + 1))
-    append_end z l =
+    pub append_ok : ps ≡ [] → Checked t0 h0 → first_unfit 0 ps0 ≡ 0 → h0.newest < last_edit → HasRoom t0 h0 ps0
+        → (t' : List Record) (first free count edit : ℕ) → t' ≡ t → first ≡ h.first → free ≡ h.free
+        → count ≡ h.count → edit ≡ h0.newest + 1
+        → AppendOk t0 h0 ps0 t' (record { first = first; free = free; count = count; newest = edit })
+    append_ok z checked fit l room t' first free count edit e1 e2 e3 e4 e5 =
         let a = u.0 in
         let f = u.1 in
         let v : Append t h before [] a f = subst (λ v. Append t h before v a f) z u.2 in
         let laid = place_end t (newest_head h (h0.newest + 1)) before a f v.place (omega arith)
         v.top v.count_is v.total in
-        record {
-          whole = laid.whole;
-          frame = v.kept;
-          line = laid.line_is ∙ (sym (append-nil a) ∙ v.line);
-          free = laid.free_is ∙ v.rest;
-          newest = refl;
-        }
+        rw (e1, e2, e3, e4, e5) (record {
+          checked = checked;
+          fit = fit;
+          left = l;
+          room = room;
+          done = record {
+            whole = laid.whole;
+            frame = v.kept;
+            line = laid.line_is ∙ (sym (append-nil a) ∙ v.line);
+            free = laid.free_is ∙ v.rest;
+            newest = refl;
+          };
+        })

@@ -9,7 +9,8 @@ use Rattle.points.specs.declared.fault.Layer.TheVariants.{Table}
 use Rattle.points.specs.declared.point.Point.{Point}
 use Rattle.points.proofs.Placing.{placed_ok}
 use Rattle.measures.specs.Pieces.{ratio_of, checked_maximum, pieces_between, taken_from, taken, room_for}
-use Rattle.measures.specs.Pieces.{cut_from, points_between, refined_from, refined, densified, densified_by}
+use Rattle.measures.specs.Pieces.{cut_from, points_between, refined_from, refined, densified, densified_by, told}
+use Rattle.measures.proofs.Cutting.{told_ok}
 use Rattle.table.specs.declared.Record.{Record}
 use Rattle.table.specs.declared.Head.{Head}
 use Rattle.table.specs.Append.{new_nodes}
@@ -19,7 +20,7 @@ use Rattle.table.specs.Lines.{points_of, held_by, kept_line, set_aside}
 use Rattle.points.specs.Limits.{last_edit}
 use Rattle.table.specs.Weave.{or_else, origin, parts_from, pieces_in, parts_in}
 use Rattle.table.specs.Weave.{woven_after, woven, spent_after, spent, Enough, Woven}
-use Rattle.table.specs.Whole.{Whole, line_of, free_of, free_count}
+use Rattle.table.specs.Whole.{Checked, Whole, line_of, free_of, free_count}
 use Rattle.table.proofs.Asides.{woven_aside}
 use Rattle.table.proofs.Ends.{start_total}
 use Rattle.table.proofs.Lines.{points_new, held_new}
@@ -207,7 +208,7 @@ module _ (far : Point → Point → Result Float Fault) (ratio : Point → Point
     pub room : Enough (parts_in far most ratio) t h
     pub asked : refined far ratio Table most (kept_line t h) ≡ Ok ls
 
-  pub accepted : (t : List Record) (h : Head) (ls : List Point) → outcome far ratio most t h ≡ Ok ls
+  accepted : (t : List Record) (h : Head) (ls : List Point) → outcome far ratio most t h ≡ Ok ls
       → Accepted t h ls
   accepted t h ls q =
       let ps = kept_line t h in
@@ -225,7 +226,7 @@ module _ (far : Point → Point → Result Float Fault) (ratio : Point → Point
 
   module _ (t : List Record) (h : Head) (ls : List Point) (a : Accepted t h ls) (t' : List Record) (h' : Head)
       (u : Woven (parts_in far most ratio) t h t' h') where
-    pub as_asked : Woven (inserted far ratio most) t h t' h'
+    as_asked : Woven (inserted far ratio most) t h t' h'
     as_asked = record {
       whole = u.whole;
       frame = u.frame;
@@ -234,7 +235,7 @@ module _ (far : Point → Point → Result Float Fault) (ratio : Point → Point
       newest = u.newest;
     }
 
-    pub line_is : Whole t h → kept_line t' h' ≡ ls
+    line_is : Whole t h → kept_line t' h' ≡ ls
     line_is w =
         let all = start_total t h w in
         let n = length_nodes t h.count h.first in
@@ -244,6 +245,26 @@ module _ (far : Point → Point → Result Float Fault) (ratio : Point → Point
         let room : spent (inserted far ratio most) (line_of t h) ≤ length (free_of t h) = omega arith in
         ap (λ v. points_of (held_by v)) as_asked.line
         ∙ points_line (h.newest + 1) (line_of t h) (free_of t h) ls a.asked room
+
+  -- a densify that asked for all points, of what stands for the table and its head
+  pub asked_ok : (t t1 : List Record) (h h1 : Head) (r : Result (Unit {0}) Fault) → t1 ≡ t → h1 ≡ h
+      → r ≡ told (outcome far ratio most t1 h1) → r ≡ Ok tt
+      → (ls : List Point) × (outcome far ratio most t h ≡ Ok ls) × Accepted t h ls
+  asked_ok t t1 h h1 r e1 e2 e3 e4 =
+      let asked : told (outcome far ratio most t h) ≡ Ok tt = rw (← e1, ← e2) (sym e3 ∙ e4) in
+      let u = told_ok (outcome far ratio most t h) asked in
+      (u.0, u.1, accepted t h u.0 u.1)
+
+  -- and wrote them
+  pub densify_ok : (t : List Record) (h : Head) → Checked t h
+      → (ls : List Point) × (outcome far ratio most t h ≡ Ok ls) × Accepted t h ls
+      → (t' : List Record) (h' : Head) → Woven (parts_in far most ratio) t h t' h'
+      → DensifyOk far ratio most t h t' h'
+  densify_ok t h w u t' h' v = record {
+    checked = w;
+    points = u.1 ∙ ap (λ ls. Ok ls) (sym (line_is t h u.0 u.2 t' h' v w.whole));
+    done = as_asked t h u.0 u.2 t' h' v;
+  }
 
   -- there is a free record for each point
   pub room_is : (t : List Record) (h : Head) (ls : List Point) → Accepted t h ls

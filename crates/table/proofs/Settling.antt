@@ -5,8 +5,8 @@ use Rattle.table.specs.declared.Head.{Head}
 use Rattle.table.specs.Chains.{at, Node, held_in}
 use Rattle.table.specs.Links.{numbered, newest_head}
 use Rattle.table.specs.Outcomes.{Frame}
-use Rattle.table.specs.Settle.{settled, Settled}
-use Rattle.table.specs.Whole.{Whole, line_of, free_of}
+use Rattle.table.specs.Settle.{settled, Settled, SettleOk}
+use Rattle.table.specs.Whole.{Checked, Whole, line_of, free_of}
 use Rattle.table.proofs.Segments.{AllHeld, node, node_same, all_join, length_nodes}
 use Rattle.table.proofs.Places.{Place}
 use Rattle.table.proofs.Moves.{place_mark}
@@ -97,8 +97,11 @@ module _ (t0 : List Record) (h : Head) where
       pub settle_inside : 0 < left → here < length t
       settle_inside = inside u.0 u.1 u.2 u.3
 
-      pub settle_end : left ≡ 0 → Settled t0 h t (newest_head h 0)
-      settle_end = last u.0 u.1 u.2 u.3
+      pub settle_ok : left ≡ 0 → Checked t0 h
+          → (t' : List Record) (first free count : ℕ) → t' ≡ t → first ≡ h.first → free ≡ h.free → count ≡ h.count
+          → SettleOk t0 h t' (record { first = first; free = free; count = count; newest = 0 })
+      settle_ok z w t' first free count e1 e2 e3 e4 =
+          rw (e1, e2, e3, e4) (record { checked = w; done = last u.0 u.1 u.2 u.3 z })
 
       pub settle_at : (t' : List Record) (here' left' : ℕ) → t' ≡ t → here' ≡ here → left' ≡ left
           → Settling t' here' left'

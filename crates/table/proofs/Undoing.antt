@@ -5,8 +5,8 @@ use Rattle.table.specs.declared.Head.{Head}
 use Rattle.table.specs.Chains.{at, Node, Held, held_in}
 use Rattle.table.specs.Links.{freed, released_table, released_head, newest_head}
 use Rattle.table.specs.Outcomes.{Frame}
-use Rattle.table.specs.Undo.{nodes_before, freed_since, Undone}
-use Rattle.table.specs.Whole.{Whole, line_of, free_of}
+use Rattle.table.specs.Undo.{nodes_before, freed_since, Undone, UndoOk}
+use Rattle.table.specs.Whole.{Checked, Whole, line_of, free_of}
 use Rattle.table.proofs.Segments.{AllHeld, node, node_same, all_join, all_map, length_nodes}
 use Rattle.table.proofs.Places.{Place, before_inside}
 use Rattle.table.proofs.Moves.{place_skip, place_drop}
@@ -155,8 +155,12 @@ module _ (t0 : List Record) (h0 : Head) where
       pub undo_before : 0 < length t → before < length t
       undo_before = before_inside t h.first h.free before here u.0 u.1 u.2 u.3.place
 
-      pub undo_end : left ≡ 0 → 0 < h0.newest → Whole t0 h0 → Undone t0 h0 t (newest_head h (h0.newest - 1))
-      undo_end = last u.0 u.1 u.2 u.3
+      pub undo_ok : left ≡ 0 → 0 < h0.newest → Checked t0 h0
+          → (t' : List Record) (first free count : ℕ) → t' ≡ t → first ≡ h.first → free ≡ h.free → count ≡ h.count
+          → UndoOk t0 h0 t'
+          (record { first = first; free = free; count = count; newest = h0.newest - 1 })
+      undo_ok z s w t' first free count e1 e2 e3 e4 =
+          rw (e1, e2, e3, e4) (record { checked = w; some = s; done = last u.0 u.1 u.2 u.3 z s w.whole })
 
       pub undo_at : (t' : List Record) (h' : Head) (before' here' left' : ℕ)
           → t' ≡ t → h' ≡ h → before' ≡ before → here' ≡ here → left' ≡ left

@@ -241,25 +241,28 @@ module _ (between : Point → Point → List Point) where
               u.6.0 u.6.1 (spliced (m ∷ ps) z) l,
         )
 
-        pub pair_room : 0 < length t
-            → (h.free < length t) × (h.count + 1 < length t) × (before < length t)
-        pair_room l =
+        pub pair_room : (h.free < length t) × (h.count + 1 < length t0) × (before < length t)
+        pair_room =
             let s = spliced (m ∷ ps) z in
             let r = splice_room t0 u.0 u.3 (between p u.1.held.point) e here (u.1 ∷ u.2) t h
             before m ps u.6.0 u.6.1 s in (
               r.0,
-              r.1,
-              before_inside t h.first h.free before here u.6.0 (u.1 ∷ u.2) u.6.1 s.place l,
+              omega (arith, r.1, s.kept.size),
+              before_inside t h.first h.free before here u.6.0 (u.1 ∷ u.2) u.6.1 s.place
+                  (omega (arith, r.0)),
             )
 
-    pub pair_at : (q q' : Point) (ps ps' : List Point) (t' : List Record) (h' : Head)
-        → Pair t0 h0 e left p q here t h before ps → q' ≡ q → ps' ≡ ps → t' ≡ t → h' ≡ h
-        → Pair t0 h0 e left p q' here t' h' before ps'
-    pair_at q q' ps ps' t' h' u e1 e2 e3 e4 = rw (e1, e2, e3, e4) u
+    pub pair_at : (q q' : Point) (ps ps' : List Point) (t' : List Record) (h' : Head) (before' : ℕ)
+        → Pair t0 h0 e left p q here t h before ps
+        → q' ≡ q → ps' ≡ ps → t' ≡ t → h' ≡ h → before' ≡ before
+        → Pair t0 h0 e left p q' here t' h' before' ps'
+    pair_at q q' ps ps' t' h' before' u e1 e2 e3 e4 e5 = rw (e1, e2, e3, e4, e5) u
 
-    pub weave_at : (here' left' : ℕ) (p' : Point) → Weaving t0 h0 e t h before here left p
-        → here' ≡ here → left' ≡ left → p' ≡ p → Weaving t0 h0 e t h before here' left' p'
-    weave_at here' left' p' u e1 e2 e3 = rw (e1, e2, e3) u
+    pub weave_at : (t' : List Record) (h' : Head) (before' here' left' : ℕ) (p' : Point)
+        → Weaving t0 h0 e t h before here left p
+        → t' ≡ t → h' ≡ h → before' ≡ before → here' ≡ here → left' ≡ left → p' ≡ p
+        → Weaving t0 h0 e t' h' before' here' left' p'
+    weave_at t' h' before' here' left' p' u e1 e2 e3 e4 e5 e6 = rw (e1, e2, e3, e4, e5, e6) u
 
   module _ (t0 : List Record) (h0 : Head) (t : List Record) (h : Head) (before here : ℕ) (p : Point) where
     last_step : (a b f : List Node) → Weave t0 h0 (h0.newest + 1) t h before here 0 p a b f
@@ -278,10 +281,12 @@ module _ (between : Point → Point → List Point) where
           newest = refl;
         }
 
-    pub weave_end : (e left : ℕ) → Weaving t0 h0 e t h before here left p → e ≡ h0.newest + 1 → left ≡ 0
-        → h0.newest < last_edit → Woven between t0 h0 t (newest_head h e)
-    weave_end e left u q z l =
+    pub weave_end : (left : ℕ) → Weaving t0 h0 (h0.newest + 1) t h before here left p → left ≡ 0
+        → h0.newest < last_edit
+        → (t' : List Record) (first free count : ℕ) → t' ≡ t → first ≡ h.first → free ≡ h.free → count ≡ h.count
+        → Woven between t0 h0 t'
+        (record { first = first; free = free; count = count; newest = h0.newest + 1 })
+    weave_end left u z l t' first free count e1 e2 e3 e4 =
         let w : Weaving t0 h0 (h0.newest + 1) t h before here 0 p =
-        subst (λ v. Weaving t0 h0 v t h before here 0 p) q
-        (subst (λ v. Weaving t0 h0 e t h before here v p) z u) in
-        rw q (last_step w.0 w.1 w.2 w.3 l)
+        subst (λ v. Weaving t0 h0 (h0.newest + 1) t h before here v p) z u in
+        rw (e1, e2, e3, e4) (last_step w.0 w.1 w.2 w.3 l)

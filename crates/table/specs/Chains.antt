@@ -1,5 +1,5 @@
 -- Chains of records: each record leads on to the next, and index 0 ends the chain.
-use Rattle.std.specs.Prelude.{◌≡◌, ℕ, zero, suc, ◌<◌, ◌≤◌, List, [], ◌∷◌, length, slice_index_or}
+use Rattle.std.specs.Prelude.{◌≡◌, ℕ, zero, suc, ◌<◌, ◌≤◌, cond, ◌&&◌, List, [], ◌∷◌, length, Some, None, Option, nat_le, nat_lt, slice_index_or}
 use Rattle.std.specs.Float.{nan}
 use Rattle.points.specs.declared.point.Point.{Point}
 use Rattle.table.specs.declared.Record.{Record}
@@ -16,6 +16,12 @@ abbrev pub Chained : List Record → ℕ → ℕ → ℕ → ℕ → Type 0
 Chained t lo hi zero i = i ≡ 0
 Chained t lo hi (suc n) i =
     (1 ≤ i) × (i < length t) × (lo ≤ (at t i).edit) × ((at t i).edit ≤ hi) × Chained t lo hi n (at t i).next
+
+-- the link of a record that such a chain may go through
+abbrev pub next_in_chain : List Record → ℕ → ℕ → ℕ → Option ℕ
+next_in_chain t lo hi i =
+    cond (nat_le 1 i && nat_lt i (length t) && nat_le lo (at t i).edit && nat_le (at t i).edit hi)
+    (Some (at t i).next) None
 
 -- the index after n steps from i
 abbrev pub index_at : List Record → ℕ → ℕ → ℕ

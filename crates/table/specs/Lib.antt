@@ -10,3 +10,4 @@ pub mod Undo
 pub mod Settle
 pub mod Weave
 pub mod Densify
+pub mod Facts

@@ -1,11 +1,10 @@
 // A new table: all records free.
-ghost use Rattle.std.specs.Prelude.{◌≡◌, ◌<◌, ◌≤◌, length, Ok, Err, slice_set};
+ghost use Rattle.std.specs.Prelude.{◌≡◌, ◌<◌, ◌≤◌, Ok, Err};
 ghost use Rattle.table.specs.Chains.{at as record_at};
-ghost use Rattle.table.specs.Format.{cleared, follower, InOrder, Formatted, FormatOk, FormatErr};
+ghost use Rattle.table.specs.Format.{follower, InOrder, FormatOk, FormatErr};
 ghost use Rattle.table.specs.Numbers.{most_records};
 ghost use Rattle.table.specs.Whole.{Sized};
 
-use crate::links::free_record;
 use crate::whole::check_length;
 use crate::{Head, Record};
 use points::fault::Fault;
@@ -27,44 +26,8 @@ fn chain_free(table: &mut [Record])
 {
     let n = table.len();
     for i in 1..n {
-        table[i] = free_record(next_in_order(i, n));
+        table[i] = Record::free(next_in_order(i, n));
     }
-}
-
-fn clear_first(table: &mut [Record])
-    requires { 0 < length table.old }
-    ensures { table.new ≡ slice_set table.old 0 cleared }
-{
-    table[0] = Record {
-        x: 0.0,
-        y: 0.0,
-        next: 0,
-        edit: 0,
-    };
-}
-
-fn new_head() -> Head
-    ensures first { result.first ≡ 0 }
-    ensures free { result.free ≡ 1 }
-    ensures count { result.count ≡ 0 }
-    ensures newest { result.newest ≡ 0 }
-{
-    Head {
-        first: 0,
-        free: 1,
-        count: 0,
-        newest: 0,
-    }
-}
-
-// A table whose length is checked becomes a new one.
-fn lay_out(table: &mut [Record]) -> Head
-    requires { Sized table.old }
-    ensures { Formatted table.old table.new result }
-{
-    clear_first(table);
-    chain_free(table);
-    new_head()
 }
 
 pub fn format(table: &mut [Record]) -> Result<Head, Fault>
@@ -74,5 +37,12 @@ pub fn format(table: &mut [Record]) -> Result<Head, Fault>
     ] }
 {
     check_length(table)?;
-    Ok(lay_out(table))
+    table[0] = Record::default();
+    chain_free(table);
+    Ok(Head {
+        first: 0,
+        free: 1,
+        count: 0,
+        newest: 0,
+    })
 }

@@ -3,9 +3,10 @@
 
 pub mod append;
 pub mod chain;
+mod cursor;
 pub mod densify;
 pub mod format;
-mod links;
+mod kept;
 pub mod settle;
 pub mod undo;
 mod weave;
@@ -13,6 +14,8 @@ pub mod whole;
 
 ghost use Rattle.std.specs.Prelude.{◌≡◌, Ok, Err};
 ghost use Rattle.table.specs.Chains.{point_in};
+ghost use Rattle.table.specs.Densify.{edit_after};
+ghost use Rattle.table.specs.Links.{freed};
 ghost use Rattle.table.specs.Outcomes.{NextEdit, NoEditLeft};
 
 use points::fault::{Cause, Fault, Layer};
@@ -28,7 +31,7 @@ const LAST_EDIT: u8 = 254;
 const MOST_RECORDS: usize = 65_536;
 
 // A point, the index of the next record of its chain, where 0 ends the chain, and the number of its edit.
-#[derive(Clone, Copy)]
+#[derive(Clone, Copy, Debug, Default, PartialEq)]
 pub struct Record {
     pub x: f64,
     pub y: f64,
@@ -47,12 +50,25 @@ pub struct Head {
 }
 
 impl Record {
-    pub fn point(self) -> Point
-        ensures { result ≡ point_in self }
+    // A free record that leads on to `next`.
+    fn free(next: u16) -> Record
+        ensures { result ≡ freed next }
     {
+        Record {
+            next,
+            edit: FREE,
+            ..Record::default()
+        }
+    }
+}
+
+impl From<Record> for Point {
+    ghost from_gives = { λ r p. p ≡ point_in r };
+
+    fn from(record: Record) -> Point {
         Point {
-            x: self.x,
-            y: self.y,
+            x: record.x,
+            y: record.y,
         }
     }
 }
@@ -61,7 +77,7 @@ impl Head {
     pub fn count(&self) -> usize
         ensures { result ≡ self.now.count }
     {
-        self.count as usize
+        usize::from(self.count)
     }
 
     pub fn newest(&self) -> u8
@@ -72,14 +88,16 @@ impl Head {
 
     // The number that the next edit gets, if one is left.
     pub fn next_edit(&self) -> Result<u8, Fault>
-        ensures { elim result [
+        ensures number { elim result [
           | Ok e ↦ NextEdit self.now e
           | Err f ↦ NoEditLeft self.now f
         ] }
+        ensures answer { result ≡ edit_after self.now.newest }
     {
-        if self.newest >= LAST_EDIT {
-            return Err(Fault::new(Cause::NoEditNumber, Layer::Table));
+        if self.newest < LAST_EDIT {
+            Ok(self.newest + 1)
+        } else {
+            Err(Fault::new(Cause::NoEditNumber, Layer::Table))
         }
-        Ok(self.newest + 1)
     }
 }

@@ -1,23 +1,19 @@
 // Whether a table is whole for a head. Links and edit numbers are read, coordinates are not.
-ghost use Rattle.std.specs.Prelude.{◌≡◌, true, ◌&&◌, Ok, Err, nat_le, nat_lt};
-ghost use Rattle.table.specs.Chains.{Chained};
+ghost use Rattle.std.specs.Prelude.{◌≡◌, true, Ok, Err};
+ghost use Rattle.table.specs.Chains.{Chained, next_in_chain};
 ghost use Rattle.table.specs.Whole.{Sized, Whole, Checked, BadLength, BadTable};
 
 use crate::{FREE, Head, LAST_EDIT, MOST_RECORDS, Record};
 use points::fault::{Cause, Fault, Layer};
 
-// Whether a chain may go on at `index`: record 0 is in no chain.
-fn in_table(index: usize, n: usize) -> bool
-    ensures { result ≡ (nat_le 1 index && nat_lt index n) }
+// Where a chain goes on behind the record, if it can be one of a chain with edit numbers from `least` to `most`.
+fn next_in_chain(table: &[Record], here: u16, least: u8, most: u8) -> Option<u16>
+    ensures { result ≡ next_in_chain table.now least most here }
 {
-    index >= 1 && index < n
-}
-
-// Whether an edit number is one of its chain.
-fn in_range(edit: u8, least: u8, most: u8) -> bool
-    ensures { result ≡ (nat_le least edit && nat_le edit most) }
-{
-    edit >= least && edit <= most
+    table
+        .get(usize::from(here))
+        .filter(|record| here > 0 && (least..=most).contains(&record.edit))
+        .map(|record| record.next)
 }
 
 // Whether the chain from `start` ends after exactly `n` records, each with an edit number from `least` to
@@ -26,17 +22,7 @@ fn ends_after(table: &[Record], start: u16, n: usize, least: u8, most: u8) -> bo
     ensures sound { result ≡ true → Chained table.now least most n start }
     ensures complete { Chained table.now least most n start → result ≡ true }
 {
-    let mut index = start as usize;
-    for _k in 0..n {
-        if !in_table(index, table.len()) {
-            return false;
-        }
-        if !in_range(table[index].edit, least, most) {
-            return false;
-        }
-        index = table[index].next as usize;
-    }
-    index == 0
+    (0..n).try_fold(start, |here, _| next_in_chain(table, here, least, most)) == Some(0)
 }
 
 // Whether the links and edit numbers keep the rules.
@@ -45,7 +31,7 @@ pub fn is_whole(table: &[Record], head: &Head) -> bool
     ensures complete { Whole table.now head.now → result ≡ true }
 {
     let n = table.len();
-    let count = head.count as usize;
+    let count = usize::from(head.count);
     count < n
         && head.newest <= LAST_EDIT
         && ends_after(table, head.first, count, 0, head.newest)
@@ -59,10 +45,11 @@ pub fn check_length(table: &[Record]) -> Result<(), Fault>
       | Err f ↦ BadLength table.now f
     ] }
 {
-    if table.len() < 2 || table.len() > MOST_RECORDS {
-        return Err(Fault::new(Cause::TableLength, Layer::Table));
+    if (2..=MOST_RECORDS).contains(&table.len()) {
+        Ok(())
+    } else {
+        Err(Fault::new(Cause::TableLength, Layer::Table))
     }
-    Ok(())
 }
 
 // What every call on a formatted table asks first.
@@ -73,8 +60,9 @@ pub fn check(table: &[Record], head: &Head) -> Result<(), Fault>
     ] }
 {
     check_length(table)?;
-    if !is_whole(table, head) {
-        return Err(Fault::new(Cause::TableNotWhole, Layer::Table));
+    if is_whole(table, head) {
+        Ok(())
+    } else {
+        Err(Fault::new(Cause::TableNotWhole, Layer::Table))
     }
-    Ok(())
 }

@@ -1,28 +1,18 @@
 -- The certificate gives the digits of the root.
-use Rattle.std.proofs.Common.{T, sym, refl, subst, arith}
-use Rattle.roots.proofs.Patterns.{up_to_infinity}
-use Rattle.roots.proofs.Certified.{bounded, has_53_digits, is_root}
+use Rattle.std.proofs.Common.{T, sym, subst, arith}
+use Rattle.std.proofs.lemmas.Float.{not_nan_f64_bits}
+use Rattle.roots.proofs.Certified.{has_53_digits, is_root}
 use Rattle.roots.proofs.certified_root.Goals as goal
-
-pub nearest_whole_root-requires : goal.nearest_whole_root-requires
-nearest_whole_root-requires c =
-    let b = bounded _ _ _ _ c.in_ok-normal.ensures c.radicand.ensures in
-    omega arith
-
-pub overflow_add-result : goal.overflow_add-result
-overflow_add-result c =
-    let p = c.in_ok-normal.ensures in
-    let d = has_53_digits _ _ _ _ _ p c.radicand.ensures c.in_ok-digits.ensures in
-    omega arith
 
 pub float_from_bits-result : goal.float_from_bits-result
 float_from_bits-result c =
-    let p = c.in_ok-normal.ensures in
-    let d = has_53_digits _ _ _ _ _ p c.radicand.ensures c.in_ok-digits.ensures in
-    up_to_infinity _ (omega arith)
+    let x = c.in_ok-normal.normal in
+    let d = has_53_digits x.exponent x.significand _ _ x.digits.0 x.digits.1 c.radicand.ensures c.in_ok-digits.ensures in
+    not_nan_f64_bits _ (omega arith)
 
 pub returns : goal.returns
 returns c =
-    let p = c.in_ok-normal.ensures in
-    is_root _ _ _ _ _ p c.radicand.ensures c.in_ok-digits.ensures c.args.x _
-    (subst T (sym c.well_formed.0.1) tt) refl c.root_exponent-base.ensures
+    let x = c.in_ok-normal.normal in
+    is_root x.exponent x.significand _ _ x.digits.0 x.digits.1 c.radicand.ensures c.in_ok-digits.ensures
+    c.args.x _ _ (subst T (sym c.well_formed.0.1) tt) c.in_ok-bits.ensures x.finite c.in_ok-normal.ensures
+    c.root_exponent-base.ensures

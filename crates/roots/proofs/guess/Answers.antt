@@ -1,7 +1,7 @@
 -- The guess of the reciprocal root is no pattern of a NaN.
 use Rattle.std.proofs.Common.{arith}
-use Rattle.roots.proofs.Patterns.{up_to_infinity}
+use Rattle.std.proofs.lemmas.Float.{not_nan_f64_bits}
 use Rattle.roots.proofs.guess.Goals as goal
 
 pub float_from_bits-y : goal.float_from_bits-y
-float_from_bits-y c = up_to_infinity _ (omega arith)
+float_from_bits-y c = not_nan_f64_bits _ (omega arith)

@@ -1,12 +1,11 @@
 // A table's chain as a line source.
 ghost use Rattle.std.specs.Prelude.{◌≡◌, ℕ, ◌<◌, [], length, nat_lt};
-ghost use Rattle.table.specs.Chains.{index_at};
+ghost use Rattle.table.specs.Chains.{at as record_at, index_at};
 ghost use Rattle.table.specs.Lines.{line_from, kept_line};
 ghost use Rattle.table.specs.Whole.{Checked};
 
 use crate::chain::Chain;
-use crate::links::record_at;
-use crate::whole::check;
+use crate::kept::KeptLine;
 use crate::{Head, Record};
 use points::coords::CoordsIter;
 use points::point::Point;
@@ -21,14 +20,11 @@ impl<'a> Chain<'a> {
             → line_from result.table.now result.count result.first ≡ [] }
         ensures first { result.at ≡ 0 }
     {
-        match check(table, head) {
-            Ok(()) => Chain::begin(table, head.first, head.count),
-            Err(_) => Chain::begin(table, 0, 0),
-        }
+        KeptLine::new(table, head).map_or(Chain::begin(table, 0, 0), |line| line.points())
     }
 
     // At the first of `count` records, which all lie in the table.
-    fn begin(table: &'a [Record], first: u16, count: u16) -> Chain<'a>
+    pub(crate) fn begin(table: &'a [Record], first: u16, count: u16) -> Chain<'a>
         requires { (k : ℕ) → k < count → index_at table.now first k < length table.now }
         ensures coords { line_from result.table.now result.count result.first ≡ line_from table.now count first }
         ensures first { result.at ≡ 0 }
@@ -48,6 +44,13 @@ impl<'a> Chain<'a> {
     {
         self.at < self.count
     }
+
+    fn record(&self) -> Record
+        requires { self.now.here < length self.now.table.now }
+        ensures { result ≡ record_at self.now.table.now self.now.here }
+    {
+        self.table[usize::from(self.here)]
+    }
 }
 
 impl CoordsIter for Chain<'_> {
@@ -56,7 +59,7 @@ impl CoordsIter for Chain<'_> {
     ghost position = { λ line. line.at };
 
     fn coords_count(&self) -> usize {
-        self.count as usize
+        usize::from(self.count)
     }
 
     fn rewind(&mut self) {
@@ -66,7 +69,7 @@ impl CoordsIter for Chain<'_> {
 
     fn current(&self) -> Option<Point> {
         if self.is_inside() {
-            Some(record_at(self.table, self.here).point())
+            Some(Point::from(self.record()))
         } else {
             None
         }
@@ -74,7 +77,7 @@ impl CoordsIter for Chain<'_> {
 
     fn advance(&mut self) {
         if self.is_inside() {
-            self.here = record_at(self.table, self.here).next;
+            self.here = self.record().next;
             self.at += 1;
         }
     }

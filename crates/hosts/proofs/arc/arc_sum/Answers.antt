@@ -1,19 +1,8 @@
-use Rattle.std.proofs.Common.{◌≡◌, ℕ, ◌-◌, ap, ◌∙◌, arith}
-use lib.Ieee.{Float}
-use Rattle.points.specs.Rounded.{◌⊖◌, ◌⊗◌}
-use Rattle.hosts.specs.Turns.{turns}
-use Rattle.hosts.specs.Arc.{quotient, arc_term}
-use Rattle.hosts.proofs.Downward.{turns_more}
+-- The table is the list of the quotients: antt computes both.
+use Rattle.std.proofs.Common.{refl}
+use lib.Ieee.{of_bits, of_int, div}
 use Rattle.hosts.proofs.arc.arc_sum.Goals as goal
 
-pub loop-k-preserved : goal.loop-k-preserved
-loop-k-preserved c =
-    let k = c.loop-k.k in
-    ap (λ (x : Float). x ⊖ c.args.z ⊗ c.loop-k.s) c.quotient.ensures
-    ∙ turns_more (arc_term c.args.z) (quotient 12) c.loop-k.s 11 (12 - k) (k - 1) (12 - (k - 1))
-    (omega arith) (omega arith) c.loop-k.invariant
-
 pub returns : goal.returns
-returns c =
-    let z : c.loop-k.k ≡ 0 = omega arith in
-    c.loop-k.invariant ∙ ap (λ (k : ℕ). turns (arc_term c.args.z) (quotient 12) 11 (12 - k)) z
+unfolding of_bits of_int div
+returns c = record { sum = c.alternating.ensures; table = refl }

@@ -1,20 +1,7 @@
-use Rattle.std.proofs.Common.{◌≡◌, ℕ, ◌-◌, ap, ◌∙◌, arith}
-use Rattle.points.specs.Rounded.{one64, ◌⊗◌}
-use Rattle.hosts.specs.Turns.{turns}
-use Rattle.hosts.specs.Circle.{cosine_term}
-use Rattle.hosts.proofs.Downward.{turns_more}
+-- The table is the list of the divisors: antt computes both.
+use lib.Ieee.{of_bits, of_int, mul}
 use Rattle.hosts.proofs.circle.cosine_part.Goals as goal
 
-pub loop-k-preserved : goal.loop-k-preserved
-loop-k-preserved c =
-    let k = c.loop-k.k in
-    let z = c.args.r ⊗ c.args.r in
-    c.cosine_term-s.ensures
-    ∙ turns_more (cosine_term z) one64 c.loop-k.s 9 (9 - k) k (9 - (k - 1)) (omega arith) (omega arith)
-    c.loop-k.invariant
-
 pub returns : goal.returns
-returns c =
-    let e : c.loop-k.k ≡ 0 = omega arith in
-    let z = c.args.r ⊗ c.args.r in
-    c.loop-k.invariant ∙ ap (λ (k : ℕ). turns (cosine_term z) one64 9 (9 - k)) e
+unfolding of_bits of_int mul
+returns c = c.series.ensures

@@ -21,12 +21,12 @@ returns-in-Row g c = λ at st.
     let space = c.in-Row.space in
     let count = c.in-Row.count in
     let u = c.row_within-result.ensures in
-    let a = c.edit_answer.result in
+    let a = c.into.result in
     let m = min count (length xs) in
     let few : m ≤ length xs = omega arith in
     subst (λ v. Stepped far ratio coords (length t) (length xs) at v t xs' (Comparing c' r') a) (sym c.in-Row.is)
     (row_step far ratio coords (length t) (length xs) at (Row space count) (sym st.turn) t xs' c' r' a
-    c.row_within-result.result c.edit_answer.ensures
+    c.row_within-result.result c.into.ensures
     (row_does coords at.book t xs c.args.comparison c.args.reference st.book.0 st.book.1
     (far space.now) space.now m c' r' xs' u.head u.reference few u.rest
     c.row_within-result.result u.called) refl refl st.turn)

@@ -7,8 +7,8 @@ pub loop-i-preserved : goal.loop-i-preserved
 loop-i-preserved c =
     let t = c.loop-i.table in
     let i = c.loop-i.i in
-    let r = c.free_record.result in
-    let is = c.free_record.ensures ∙ ap freed c.next_in_order.ensures in
+    let r = c.free.result in
+    let is = c.free.ensures ∙ ap freed c.next_in_order.ensures in
     let lt : i < length t = omega (arith, c.loop-i.auto.table) in (
       get_or-set_other t i 0 r blank (omega arith) ∙ c.loop-i.invariant.0,
       below_more _ _

@@ -1,6 +1,5 @@
-use Rattle.std.proofs.Common.{rules}
 use Rattle.hosts.proofs.Quarters.{whole_quarters}
 use Rattle.hosts.proofs.series.SeriesHostHost.sin.Goals as goal
 
-pub returns : goal.returns
-returns c = record { answer = search rules; whole = whole_quarters }
+pub returns-clause-whole : goal.returns-clause-whole
+returns-clause-whole c = whole_quarters

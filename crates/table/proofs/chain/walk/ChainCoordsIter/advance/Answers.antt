@@ -9,7 +9,7 @@ pub invariant_of-self : goal.invariant_of-self
 invariant_of-self c =
     let line = c.args.self.now in
     let t = line.table.now in
-    let next = ap (λ r. r.next) (c.record_at.ensures ∙ ap (at t) line.stands) in
+    let next = ap (λ r. r.next) (c.record.ensures ∙ ap (at t) line.stands) in
     record { inside = line.inside; stands = next ∙ sym (index_more t line.first line.at) }
 
 pub returns-then-is_inside : goal.returns-then-is_inside

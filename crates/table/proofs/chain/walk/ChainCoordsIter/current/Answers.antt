@@ -8,7 +8,7 @@ returns-then-is_inside c =
     let line = c.args.self.now in
     let t = line.table.now in
     let inside = ltb-true line.at line.count (sym c.if-is_inside.ensures) in
-    ap (λ p. Some p) (c.point.ensures ∙ ap point_in (c.record_at.ensures ∙ ap (at t) line.stands))
+    ap (λ p. Some p) (c.from.ensures ∙ ap point_in (c.record.ensures ∙ ap (at t) line.stands))
     ∙ sym (nth_line t line.count line.first line.at inside)
 
 pub returns-else-is_inside : goal.returns-else-is_inside

@@ -1,0 +1,69 @@
+use Rattle.std.proofs.Common.{sym, refl, ap, ◌∙◌, arith, rules}
+use Rattle.table.proofs.Undoing as undoing
+use Rattle.table.proofs.undo.undo.Goals as goal
+use Rattle.table.proofs.undo.undo.Goals.{then-record-newest, else-record-newest}
+
+pub loop-init : goal.loop-init
+loop-init c =
+    let t0 = c.args.table.now in
+    let h0 = c.args.head.now in
+    let e = c.start-cursor.ensures in
+    record {
+      same_table = refl;
+      same_head = refl;
+      undoing = undoing.undo_at t0 h0 _ _ _ _ _
+          (undoing.undo_start t0 h0 _ (omega arith) c.in_ok-check.ensures.whole) _ _ _ _ _ e.table e.head
+          e.before e.here refl;
+    }
+
+pub record-requires : goal.record-requires
+record-requires c =
+    (undoing.undo_inside c.args.table.now c.args.head.now _ _ _ _ _ c.loop.invariant.undoing (omega arith)).0
+
+pub remove-requires : goal.remove-requires
+remove-requires c =
+    let t0 = c.args.table.now in
+    let h0 = c.args.head.now in
+    let inside = undoing.undo_inside t0 h0 _ _ _ _ _ c.loop.invariant.undoing (omega arith) in
+    record {
+      before = undoing.undo_before t0 h0 _ _ _ _ _ c.loop.invariant.undoing (omega (arith, inside.0));
+      here = inside.0;
+      some = inside.1;
+    }
+
+pub step-requires : goal.step-requires
+step-requires c =
+    (undoing.undo_inside c.args.table.now c.args.head.now _ _ _ _ _ c.loop.invariant.undoing (omega arith)).0
+
+pub loop-preserved : goal.loop-preserved
+loop-preserved c =
+    let t0 = c.args.table.now in
+    let h0 = c.args.head.now in
+    let u = c.loop.invariant in
+    let ed = ap (λ r. r.edit) c.record.ensures in
+    elim c.if-record-newest.branch [
+      | then-record-newest w ↦
+          let e = w.remove.ensures in
+          rw w.cursor-is (record {
+            same_table = e.same_table ∙ u.same_table;
+            same_head = e.same_head ∙ u.same_head;
+            undoing = undoing.undo_at t0 h0 _ _ _ _ _
+                (undoing.undo_drop t0 h0 _ _ _ _ _ u.undoing (omega arith) (sym ed ∙ w.if-record-newest.true))
+                _ _ _ _ _ e.table e.head e.before e.here (omega arith);
+          })
+      | else-record-newest w ↦
+          let e = w.step.ensures in
+          rw w.cursor-is (record {
+            same_table = e.same_table ∙ u.same_table;
+            same_head = e.same_head ∙ u.same_head;
+            undoing = undoing.undo_at t0 h0 _ _ _ _ _
+                (undoing.undo_keep t0 h0 _ _ _ _ _ u.undoing (omega arith)
+                (λ q. w.if-record-newest.false (ed ∙ q)))
+                _ _ _ _ _ e.table e.head e.before e.here (omega arith);
+          })
+    ]
+
+pub returns : goal.returns
+returns c =
+    undoing.undo_ok c.args.table.now c.args.head.now _ _ _ _ _ c.loop.invariant.undoing (omega arith)
+    (omega arith) c.in_ok-check.ensures _ _ _ _ (search rules) (search rules) (search rules) (search rules)
