@@ -1,5 +1,5 @@
 -- The number of quarter turns, as a double, as an integer and by fours.
-use Rattle.std.proofs.Common.{◌≡◌, ℕ, ◌-◌, ◌*◌, ◌/◌, ◌^◌, ◌<◌, ◌≤◌, min, Bool, true, false, cond, T, ℤ, pos, negsuc, ◌+ℤ◌, ◌*ℤ◌, neg_ℤ, nat_abs, sym, refl, ap, ◌∙◌, subst, le_of_lt, div-lt_iff_lt-mul, mul-pos, mul-one, mul-div_cancel, arith, lit<, lit≤, pow_pos}
+use Rattle.std.proofs.Common.{◌≡◌, ℕ, ◌-◌, ◌*◌, ◌/◌, ◌^◌, ◌<◌, ◌≤◌, min, Bool, true, false, cond, T, ℤ, pos, negsuc, ◌+ℤ◌, ◌*ℤ◌, neg_ℤ, nat_abs, sym, ap, ◌∙◌, le_of_lt, div-lt_iff_lt-mul, mul-pos, mul-one, mul-div_cancel, arith, lit<, lit≤, pow_pos}
 use lib.Ieee.{Float, nan, inf, fin, binary64, unlike, up, down, mul, lt, le, eq, round, to_signed, of_bits}
 use lib.Ieee.Back.{round_whole}
 use lib.Ieee.Exact.{HasValue}
@@ -8,7 +8,7 @@ use Rattle.std.proofs.lemmas.Int.{ints}
 use Rattle.std.proofs.lemmas.Bool.Decides.{nat_tests}
 use Rattle.std.specs.Float.{round_with, ratio_round_half_up, float_with_sign}
 use Rattle.std.specs.Int.{int_rem_euclid}
-use Rattle.hosts.specs.Circle.{farthest, two_over_pi, signed, Whole, WholeQuarters}
+use Rattle.hosts.specs.Circle.{two_over_pi, signed, Whole, WholeQuarters}
 use Rattle.hosts.proofs.AtMost.{AtMost, at_most}
 
 -- ---- an integer by fours
@@ -62,14 +62,6 @@ nearest (fin true m e) h =
 
 -- ---- an angle of at most 10^6 in magnitude
 
-farthest_is : farthest ≡ fin false 15625 (pos 6)
-unfolding of_bits
-farthest_is = refl
-
-factor_is : two_over_pi ≡ fin false 5734161139222659 (negsuc 52)
-unfolding of_bits
-factor_is = refl
-
 le_cap : (m : ℕ) (e : ℤ) → T (le (fin false m e) (fin false 15625 (pos 6))) → m * up e * 1 ≤ 1000000 * down e
 unfolding le lt eq
 le_cap m e t = grind (arith, nat_tests)
@@ -85,20 +77,8 @@ times s m e t =
     cap : (n d : ℕ) → n * 1 ≤ 1000000 * d → n * 5734161139222659 ≤ 1000000 * (d * 2 ^ 53)
     cap n d h = omega arith
 
-no_nan : T (le nan farthest) → ⊥
-unfolding le lt eq
-no_nan h = h
-
-no_infinity : T (le (inf false) (fin false 15625 (pos 6))) → ⊥
-unfolding le lt eq
-no_infinity h = h
-
 pub whole_quarters : WholeQuarters
-unfolding float_with_sign
-whole_quarters nan t = absurd (no_nan t)
-whole_quarters (inf s) t = absurd (no_infinity (subst (λ (z : Float). T (le (inf false) z)) farthest_is t))
-whole_quarters (fin s m e) t =
-    let near : T (le (fin false m e) (fin false 15625 (pos 6))) =
-    subst (λ (z : Float). T (le (fin false m e) z)) farthest_is t in
-    nearest (mul binary64 (fin s m e) two_over_pi)
-    (subst (λ (z : Float). AtMost 1000000 (mul binary64 (fin s m e) z)) (sym factor_is) (times s m e near))
+unfolding float_with_sign of_bits le lt eq
+whole_quarters nan t = absurd t
+whole_quarters (inf s) t = absurd t
+whole_quarters (fin s m e) t = nearest (mul binary64 (fin s m e) two_over_pi) (times s m e t)

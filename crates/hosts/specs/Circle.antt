@@ -52,7 +52,7 @@ by_quadrant q a b c d = cond (q == 0) a (cond (q == 1) b (cond (q == 2) c d))
 
 -- the sine of r after so many quarter turns
 abbrev pub sine_in : ℕ → Float → Float
-sine_in turns r = by_quadrant turns (sine_part r) (cosine_part r) (neg (sine_part r)) (neg (cosine_part r))
+sine_in q r = by_quadrant q (sine_part r) (cosine_part r) (neg (sine_part r)) (neg (cosine_part r))
 
 abbrev pub sine : Float → Float → Float
 sine q r = sine_in (quadrant q) r

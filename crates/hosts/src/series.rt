@@ -24,6 +24,7 @@ impl Host for SeriesHost {
         answer(length::hypot(x, y))
     }
 
+    #[tactic(auto, using(crate::proofs::Quarters::whole_quarters))]
     fn sin(&self, x: f64) -> Result<f64, Fault>
         ensures answer { result ≡ answered (series_answer Function.Sin x zero64) }
         ensures whole { WholeQuarters }
@@ -31,6 +32,7 @@ impl Host for SeriesHost {
         answer(circle::sin(x))
     }
 
+    #[tactic(auto, using(crate::proofs::Quarters::whole_quarters))]
     fn cos(&self, x: f64) -> Result<f64, Fault>
         ensures answer { result ≡ answered (series_answer Function.Cos x zero64) }
         ensures whole { WholeQuarters }
@@ -42,6 +44,7 @@ impl Host for SeriesHost {
         answer(arc::asin(x))
     }
 
+    #[tactic(auto, using(crate::proofs::ArcRule::arc_rule))]
     fn atan2(&self, y: f64, x: f64) -> Result<f64, Fault>
         ensures answer { result ≡ answered (series_answer Function.Atan2 y x) }
         ensures rule { ArcRule }

@@ -11,7 +11,7 @@ use hosts::host::Host;
 use hosts::series::SeriesHost;
 use measures::length::length;
 use points::fault::Fault;
-use points::forward::Forward;
+use points::walk::Forward;
 use points::point::Point;
 use spaces::euclidean::Euclidean;
 use spaces::space::Space;

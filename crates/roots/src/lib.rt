@@ -58,6 +58,7 @@ impl Normal {
 // A number near the root of x, whose pattern is `bits`. No proof says how near: a guess that is far
 // off only costs time. The first line is within 4 % of 1 / root(x), by halving the exponent and
 // changing its sign, the third within 0.003 %, by a quadratic fit, and the last within an ulp or so.
+#[tactic(auto, using(std::proofs::lemmas::Float::not_nan_f64_bits))]
 fn guess(x: f64, bits: u64) -> f64
     requires { bits < 2047 * 2 ^ 52 }
 {
