@@ -6,7 +6,8 @@ use crate::host::{Function, Host, answer};
 use points::fault::Fault;
 use std::num::f64_from_bits_with_nan;
 
-// A function by its number, the bits of its two arguments (the second 0 where it has one) and of its answer.
+// A function by its number, the bits of its two arguments (the second 0 where it has one) and of its answer. The
+// number stays a byte, as the record's format has it: any may come in, and one that is no function's never answers.
 #[derive(Clone, Copy)]
 pub struct Recorded {
     pub function: u8,

@@ -13,6 +13,7 @@ use points::fault::Fault;
 #[derive(Clone, Copy)]
 pub struct SeriesHost;
 
+// Six functions of one shape, each with a series of its own, and three with laws of their own.
 impl Host for SeriesHost {
     ghost meaning = { λ _. series_answer };
 
