@@ -4,24 +4,20 @@ use Rattle.points.specs.declared.fault.Cause.TheVariants.{Malformed}
 use Rattle.points.specs.declared.fault.Fault.{Fault}
 use Rattle.points.specs.declared.fault.Layer.TheVariants as layers
 use Rattle.points.specs.Faults.{raised, placed}
-use Rattle.text.specs.Grammar.{CommandAt, Unspelled}
-use Rattle.text.specs.Lines.{Inside, part}
+use Rattle.text.specs.Grammar.{CommandOf, Unspelled}
 use Rattle.text.specs.Printed.{malformed_text}
 use Rattle.text.specs.declared.command.Command.{Command}
-use Rattle.job.specs.Reply.{Kept, reply_to}
+use Rattle.job.specs.Kept.{Kept}
+use Rattle.job.specs.Reply.{reply_to}
 
 -- a job has at most 60,000 bytes; a longer one is malformed as a whole, at no line
 abbrev pub length_allowed : ℕ → Result (Unit {0}) Fault
 length_allowed bytes = cond (nat_le bytes 60000) (Ok tt) (Err (raised Malformed layers.Job))
 
--- no command is spelled by the bytes from `from` up to `to`
-abbrev pub NoCommand : List ℕ → ℕ → ℕ → Type 0
-NoCommand bytes from to = Inside bytes from to → Unspelled (part bytes from to)
-
 -- the command that the line spells, or the fault of a malformed line, which tells the line's number
-abbrev pub CommandOrFault : List ℕ → ℕ → ℕ → ℕ → Result Command Fault → Type 0
-CommandOrFault bytes from to number (Ok q) = CommandAt bytes from to q
-CommandOrFault bytes from to number (Err f) = NoCommand bytes from to × (f ≡ placed number (raised Malformed layers.Job))
+abbrev pub CommandOrFault : List ℕ → ℕ → Result Command Fault → Type 0
+CommandOrFault line number (Ok q) = CommandOf line q
+CommandOrFault line number (Err f) = Unspelled line × (f ≡ placed number (raised Malformed layers.Job))
 
 -- what is printed for a command, and kept after it
 pub record Replies (old : Kept) (q : Command) (printed : List ℕ) (new : Kept) : Type 0 where
@@ -29,9 +25,9 @@ pub record Replies (old : Kept) (q : Command) (printed : List ℕ) (new : Kept) 
   pub kept : new ≡ (reply_to old q).kept
 
 -- the line spells a command, and is answered so
-pub record Asked (bytes : List ℕ) (from to : ℕ) (old : Kept) (printed : List ℕ) (new : Kept) : Type 0 where
+pub record Asked (line : List ℕ) (old : Kept) (printed : List ℕ) (new : Kept) : Type 0 where
   pub command : Command
-  pub spelled : CommandAt bytes from to command
+  pub spelled : CommandOf line command
   pub answered : Replies old command printed new
 
 -- the line spells none: its number is told, and nothing changes
@@ -40,12 +36,12 @@ pub record Refused (number : ℕ) (old : Kept) (printed : List ℕ) (new : Kept)
   pub kept : new ≡ old
 
 -- one or the other
-abbrev pub EitherWay : List ℕ → ℕ → ℕ → ℕ → Kept → List ℕ → Kept → Type 0
-EitherWay bytes from to number old printed new =
-    Asked bytes from to old printed new ⊎ (NoCommand bytes from to × Refused number old printed new)
+abbrev pub EitherWay : List ℕ → ℕ → Kept → List ℕ → Kept → Type 0
+EitherWay line number old printed new =
+    Asked line old printed new ⊎ (Unspelled line × Refused number old printed new)
 
 -- whatever command the line spells is answered, and a line is refused exactly where it spells none
-pub record Answered (bytes : List ℕ) (from to number : ℕ) (old : Kept) (printed : List ℕ) (new : Kept) : Type 0 where
-  pub allowed : (q : Command) → CommandAt bytes from to q → Replies old q printed new
-  pub malformed : NoCommand bytes from to → Refused number old printed new
-  pub either : EitherWay bytes from to number old printed new
+pub record Answered (line : List ℕ) (number : ℕ) (old : Kept) (printed : List ℕ) (new : Kept) : Type 0 where
+  pub allowed : (q : Command) → CommandOf line q → Replies old q printed new
+  pub malformed : Unspelled line → Refused number old printed new
+  pub either : EitherWay line number old printed new

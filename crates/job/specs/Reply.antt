@@ -1,5 +1,5 @@
--- What a job keeps, and what each command is answered.
-use Rattle.std.specs.Prelude.{ℕ, ◌*◌, min, cond, ◌&&◌, List, [], ◌∷◌, ◌++◌, length, replicate, Ok, Err, vec_items, Result, from_bits, nat_lt, to_bits, Float}
+-- What each command is answered, and what is kept after it.
+use Rattle.std.specs.Prelude.{ℕ, ◌*◌, min, cond, ◌&&◌, List, [], ◌∷◌, ◌++◌, length, replicate, Ok, Err, Result, from_bits, nat_lt, to_bits, Float}
 use Rattle.std.specs.Float.{float_is_finite, binary64}
 use Rattle.points.specs.declared.fault.Cause.TheVariants.{NotFinite, NoRoom}
 use Rattle.points.specs.declared.fault.Fault.{Fault}
@@ -12,19 +12,10 @@ use Rattle.hosts.specs.Series.{series_answer}
 use Rattle.spaces.specs.Plane as Plane
 use Rattle.frechet.specs.Table.{frechet}
 use Rattle.text.specs.Printed.{status_text, bits_text}
-use Rattle.text.specs.declared.printed.Letter.{Letter}
 use Rattle.text.specs.declared.printed.Letter.TheVariants as letters
 use Rattle.text.specs.declared.command.Command.{Command}
 use Rattle.text.specs.declared.command.Command.TheVariants.{Reference, Append, Compare}
-use Rattle.job.specs.declared.job.Job.{Job}
-
--- the reference, and the planned line
-pub record Kept : Type 0 where
-  pub reference : List Point
-  pub planned : List Point
-
-abbrev pub kept_by : Job → Kept
-kept_by job = record { reference = vec_items job.reference; planned = vec_items job.planned }
+use Rattle.job.specs.Kept.{Kept}
 
 -- a point by the bits of its coordinates
 abbrev pub point_of : ℕ → ℕ → Point
@@ -56,16 +47,27 @@ pub record Reply : Type 0 where
   pub printed : List ℕ
   pub kept : Kept
 
--- 0 and the new lists, or the refusal's number and the old ones
-abbrev pub done : Letter → Result (Unit {0}) Fault → Kept → Kept → Reply
-done l (Ok _) old new = record { printed = status_text l 0; kept = new }
-done l (Err f) old new = record { printed = status_text l (number_of f.cause); kept = old }
+-- 0, or the number of the refusal
+abbrev pub outcome_number : Result (Unit {0}) Fault → ℕ
+outcome_number (Ok _) = 0
+outcome_number (Err f) = number_of f.cause
+
+-- one point more at the end, unless it is refused
+abbrev pub added : Result (Unit {0}) Fault → List Point → Point → List Point
+added (Ok _) ps p = ps ++ p ∷ []
+added (Err _) ps p = ps
 
 abbrev pub reply_to : Kept → Command → Reply
 reply_to k (Reference x y) =
-    done letters.R (reference_room (length k.reference) (point_of x y)) k
-    (record { reference = k.reference ++ point_of x y ∷ []; planned = k.planned })
+    let outcome = reference_room (length k.reference) (point_of x y) in
+    record {
+      printed = status_text letters.R (outcome_number outcome);
+      kept = record { reference = added outcome k.reference (point_of x y); planned = k.planned };
+    }
 reply_to k (Append x y) =
-    done letters.A (finite_or_not (point_of x y)) k
-    (record { reference = k.reference; planned = k.planned ++ point_of x y ∷ [] })
+    let outcome = finite_or_not (point_of x y) in
+    record {
+      printed = status_text letters.A (outcome_number outcome);
+      kept = record { reference = k.reference; planned = added outcome k.planned (point_of x y) };
+    }
 reply_to k Compare = record { printed = distance_text (distance_of k); kept = k }

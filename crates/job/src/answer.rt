@@ -1,7 +1,8 @@
 // The printed line of each line of a job.
-ghost use Rattle.std.specs.Prelude.{◌≡◌, IfOk, vec_len, string_bytes, MatchResult};
-ghost use Rattle.job.specs.Reply.{point_of, finite_or_not, reference_room, kept_by, plane_distance, distance_of, distance_text, reply_to};
-ghost use Rattle.job.specs.Answer.{length_allowed, CommandOrFault, Replies, EitherWay, Answered};
+ghost use Rattle.std.specs.Prelude.{◌≡◌, IfOk, vec_items, string_bytes, MatchResult};
+ghost use Rattle.text.specs.Printed.{status_text};
+ghost use Rattle.job.specs.Reply.{point_of, finite_or_not, reference_room, outcome_number, added, plane_distance, distance_of, distance_text, reply_to};
+ghost use Rattle.job.specs.Answer.{length_allowed, CommandOrFault, Replies, Answered};
 
 use crate::job::Job;
 use frechet::distance::frechet_distance;
@@ -13,7 +14,7 @@ use spaces::euclidean::Euclidean;
 use std::alloc::{AllocError, Global};
 use std::num::{f64_from_bits_with_nan, f64_to_bits_with_nan};
 use text::command::{Command, read_command};
-use text::lines::Line;
+use text::line::Line;
 use text::printed::{Letter, bits_line, malformed_line, status_line};
 
 // The longest job, in bytes.
@@ -45,7 +46,7 @@ fn point_of(x: u64, y: u64) -> Point
 fn finite(p: Point) -> Result<(), Fault>
     ensures { result ≡ finite_or_not p }
 {
-    if p.x.is_finite() && p.y.is_finite() {
+    if p.is_finite() {
         Ok(())
     } else {
         Err(Fault::new(Cause::NotFinite, Layer::Line))
@@ -74,52 +75,48 @@ fn distance(planned: &[Point], reference: &[Point], cells: &mut [f64]) -> Result
     frechet_distance(&plane, &mut planned, &mut reference, cells)
 }
 
-// What the line asks for, or the fault that tells its number.
-fn command_of(text: &[u8], line: Line, number: usize) -> Result<Command, Fault>
-    ensures { CommandOrFault text.now line.start line.end number result }
+// The letter, and 0 or the number of the refusal.
+fn status(heap: Global, letter: Letter, outcome: Result<(), Fault>) -> Result<String, AllocError>
+    ensures { IfOk result (λ s. string_bytes s ≡ status_text letter (outcome_number outcome)) }
 {
-    match read_command(text, line.start, line.end) {
-        Some(command) => Ok(command),
-        None => Err(Fault::new(Cause::Malformed, Layer::Job).at(number)),
+    let number = match outcome {
+        Ok(()) => 0,
+        Err(fault) => fault.cause.number(),
+    };
+    status_line(heap, letter, number)
+}
+
+// Adds the point to the list unless it is refused. The text is made before anything is kept, so that want of
+// memory changes nothing.
+fn add(
+    heap: Global,
+    letter: Letter,
+    list: &mut Vec<Point>,
+    p: Point,
+    outcome: Result<(), Fault>,
+) -> Result<String, AllocError>
+    ensures { MatchResult result
+        (λ s. (string_bytes s ≡ status_text letter (outcome_number outcome))
+        × (list.new.items ≡ added outcome list.old.items p))
+        (λ _. list.new.items ≡ list.old.items) }
+{
+    let text = status(heap, letter, outcome)?;
+    if outcome.is_ok() {
+        list.push(p)?;
     }
+    Ok(text)
+}
+
+// What the line asks for, or the fault that tells its number.
+fn command_of(line: Line, number: usize) -> Result<Command, Fault>
+    ensures { CommandOrFault line.entry.bytes.now number result }
+{
+    read_command(line).ok_or(Fault::new(Cause::Malformed, Layer::Job).at(number))
 }
 
 impl Job {
-    // The text is made before anything is kept, so that want of memory changes nothing.
-    fn add_reference(&mut self, heap: Global, x: u64, y: u64) -> Result<String, AllocError>
-        ensures { MatchResult result (λ s. Replies (kept_by self.old) (Command.Reference x y)
-            (string_bytes s) (kept_by self.new))
-            (λ _. kept_by self.new ≡ kept_by self.old) }
-    {
-        let p = point_of(x, y);
-        match reference_takes(self.reference.len(), p) {
-            Ok(()) => {
-                let text = status_line(heap, Letter::R, 0)?;
-                self.reference.push(p)?;
-                Ok(text)
-            }
-            Err(fault) => status_line(heap, Letter::R, fault.cause.number()),
-        }
-    }
-
-    fn append(&mut self, heap: Global, x: u64, y: u64) -> Result<String, AllocError>
-        ensures { MatchResult result (λ s. Replies (kept_by self.old) (Command.Append x y)
-            (string_bytes s) (kept_by self.new))
-            (λ _. kept_by self.new ≡ kept_by self.old) }
-    {
-        let p = point_of(x, y);
-        match finite(p) {
-            Ok(()) => {
-                let text = status_line(heap, Letter::A, 0)?;
-                self.planned.push(p)?;
-                Ok(text)
-            }
-            Err(fault) => status_line(heap, Letter::A, fault.cause.number()),
-        }
-    }
-
     fn compare(&self, heap: Global) -> Result<String, AllocError>
-        ensures { IfOk result (λ s. string_bytes s ≡ distance_text (distance_of (kept_by self.now))) }
+        ensures { IfOk result (λ s. string_bytes s ≡ distance_text (distance_of self.now)) }
     {
         let shorter = self.planned.len().min(self.reference.len());
         let mut cells = vec![in heap; 0.0; 2 * shorter]?;
@@ -129,53 +126,38 @@ impl Job {
             &mut cells,
         ) {
             Ok(d) => bits_line(heap, Letter::C, f64_to_bits_with_nan(d)),
-            Err(fault) => status_line(heap, Letter::C, fault.cause.number()),
+            Err(fault) => status(heap, Letter::C, Err(fault)),
         }
     }
 
     fn reply(&mut self, heap: Global, command: Command) -> Result<String, AllocError>
-        ensures { MatchResult result (λ s. Replies (kept_by self.old) command (string_bytes s)
-            (kept_by self.new)) (λ _. kept_by self.new ≡ kept_by self.old) }
+        ensures { MatchResult result (λ s. Replies self.old command (string_bytes s)
+            self.new) (λ _. self.new ≡ self.old) }
     {
         match command {
-            Command::Reference(x, y) => self.add_reference(heap, x, y),
-            Command::Append(x, y) => self.append(heap, x, y),
+            Command::Reference(x, y) => {
+                let p = point_of(x, y);
+                let outcome = reference_takes(self.reference.len(), p);
+                add(heap, Letter::R, &mut self.reference, p, outcome)
+            }
+            Command::Append(x, y) => {
+                let p = point_of(x, y);
+                add(heap, Letter::A, &mut self.planned, p, finite(p))
+            }
             Command::Compare => self.compare(heap),
-        }
-    }
-
-    fn answer_either(
-        &mut self,
-        heap: Global,
-        text: &[u8],
-        line: Line,
-        number: usize,
-    ) -> Result<String, AllocError>
-        ensures { MatchResult result
-            (λ s. EitherWay text.now line.start line.end number (kept_by self.old)
-            (string_bytes s) (kept_by self.new))
-            (λ _. kept_by self.new ≡ kept_by self.old) }
-    {
-        match command_of(text, line, number) {
-            Ok(command) => self.reply(heap, command),
-            Err(fault) => malformed_line(heap, fault.place),
         }
     }
 
     // The printed line of the line with this number. Only want of memory leaves it unanswered, and then
     // nothing has changed.
-    pub fn answer(
-        &mut self,
-        heap: Global,
-        text: &[u8],
-        line: Line,
-        number: usize,
-    ) -> Result<String, AllocError>
+    pub fn answer(&mut self, heap: Global, line: Line, number: usize) -> Result<String, AllocError>
         ensures { MatchResult result
-            (λ s. Answered text.now line.start line.end number (kept_by self.old)
-            (string_bytes s) (kept_by self.new))
-            (λ _. kept_by self.new ≡ kept_by self.old) }
+            (λ s. Answered line.entry.bytes.now number self.old (string_bytes s) self.new)
+            (λ _. self.new ≡ self.old) }
     {
-        self.answer_either(heap, text, line, number)
+        match command_of(line, number) {
+            Ok(command) => self.reply(heap, command),
+            Err(fault) => malformed_line(heap, fault.place),
+        }
     }
 }

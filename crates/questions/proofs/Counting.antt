@@ -1,10 +1,9 @@
 -- The text of numbers, one after the other, and where it ends.
-use Rattle.std.proofs.Common.{◌≡◌, ℕ, suc, ◌-◌, ◌*◌, ◌^◌, ◌<◌, List, [], ◌∷◌, ◌++◌, length, take, drop, sym, refl, ap, ◌∙◌, append_assoc, append-nil, arith, length-append}
+use Rattle.std.proofs.Common.{◌≡◌, ℕ, suc, ◌*◌, ◌^◌, ◌<◌, List, [], ◌∷◌, ◌++◌, length, sym, refl, ap, ◌∙◌, append_assoc, append-nil, arith, length-append}
 use lib.Ieee.{Float}
 use Rattle.std.proofs.lemmas.List.{append_cancel_left, length-map}
 use Rattle.text.specs.Hex.{hex_text}
 use Rattle.text.specs.Grammar.{spaced, Parted}
-use Rattle.text.specs.Lines.{part}
 use Rattle.text.proofs.HexLaws.{length_hex_text}
 use Rattle.text.proofs.Digits.{same_rest}
 use Rattle.questions.specs.Spelling.{numbers_text, AllSized, Words}
@@ -71,6 +70,3 @@ words_count line name xs ys a b =
     let xa = sym (ap length a.are) ∙ length-map a.bits _ in
     let xb = sym (ap length b.are) ∙ length-map b.bits _ in
     omega (arith, long, la, lb, xa, xb)
-
-pub part_end : (bytes : List ℕ) (to : ℕ) → part bytes to to ≡ []
-part_end bytes to = let none : to - to ≡ 0 = omega arith in ap (λ k. take k (drop to bytes)) none

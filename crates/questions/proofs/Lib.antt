@@ -1,6 +1,7 @@
 pub mod Counting
 pub mod Parting
 pub mod Held
-pub mod Unasked
 pub mod Digits
 pub mod Unique
+pub mod Names
+pub mod Calls

@@ -2,7 +2,6 @@
 use Rattle.std.specs.Prelude.{◌≡◌, ℕ, ◌*◌, min, List, ◌++◌, length, replicate, Ok, Err, codes, decimal, Option, Result, to_bits, Float}
 use Rattle.std.specs.Float.{binary64}
 use Rattle.text.specs.Hex.{hex_text}
-use Rattle.text.specs.Lines.{Inside, part}
 use Rattle.points.specs.Faults.{number_of}
 use Rattle.points.specs.Rounded.{zero64}
 use Rattle.points.specs.declared.fault.Fault.{Fault}
@@ -24,14 +23,14 @@ abbrev pub heard : Result Float Fault → Answer
 heard (Ok x) = answers.Number x
 heard (Err f) = answers.NoAnswer
 
--- a refusal is told by the number of its cause
+-- a refusal is told by its cause
 abbrev pub measured : Result Float Fault → Answer
 measured (Ok x) = answers.Number x
-measured (Err f) = answers.Refused (number_of f.cause)
+measured (Err f) = answers.Refused f.cause
 
 abbrev pub landed : Result places.Point Fault → Answer
 landed (Ok p) = answers.Point p
-landed (Err f) = answers.Refused (number_of f.cause)
+landed (Err f) = answers.Refused f.cause
 
 abbrev pub hypot : Float → Float → Option Float
 hypot = series_answer functions.Hypot
@@ -68,16 +67,15 @@ abbrev pub printed : Answer → List ℕ
 printed (answers.Number x) = number_text x
 printed (answers.Point p) = point_text p
 printed answers.NoAnswer = codes "none"
-printed (answers.Refused n) = codes "refused " ++ decimal n
+printed (answers.Refused cause) = codes "refused " ++ decimal (number_of cause)
 
 -- what is printed for a line that spells no question
 abbrev pub malformed_text : List ℕ
 malformed_text = codes "refused 14"
 
--- what is printed for the line from `from` up to `to`
-pub record Answered (bytes : List ℕ) (from to : ℕ) (out : List ℕ) : Type 0 where
+-- what is printed for the line
+pub record Answered (line out : List ℕ) : Type 0 where
   -- where it spells a question, the answer to that
-  pub asked : (q : Asked) → Inside bytes from to → Spells (part bytes from to) q →
-      out ≡ printed (answer_to q)
+  pub asked : (q : Asked) → Spells line q → out ≡ printed (answer_to q)
   -- where it spells none, a refusal
-  pub malformed : (Inside bytes from to → Unspelled (part bytes from to)) → out ≡ malformed_text
+  pub malformed : Unspelled line → out ≡ malformed_text

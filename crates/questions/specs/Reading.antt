@@ -1,55 +1,53 @@
--- Defines what is found at a place of a line: a name, and as many numbers as stand there.
-use Rattle.std.specs.Prelude.{◌≡◌, ℕ, List, ◌++◌, Option, MatchOption, Float}
-use Rattle.text.specs.Grammar.{NoNumber}
-use Rattle.text.specs.Lines.{Inside, part}
-use Rattle.points.specs.declared.point.Point.{Point}
-use Rattle.questions.specs.Asked.{asked, Sqrt, Hypot, Sin, Cos, Asin, Atan2}
+-- Defines what is read of a line: the name of a call, numbers, and what a call asks.
+use Rattle.std.specs.Prelude.{◌≡◌, ℕ, List, [], ◌∷◌, ◌++◌, codes, Option, MatchOption, Float}
+use Rattle.text.specs.Grammar.{Parted, NoNumber}
+use Rattle.text.specs.Lines.{front}
+use Rattle.questions.specs.Asked.{Asked, Sqrt, Hypot, Sin, Cos, Asin, Atan2}
 use Rattle.questions.specs.Asked.{Distance, Ratio, Along, Length, Frechet}
-use Rattle.questions.specs.Spelling.{numbers_text, AllSized, floats, Spells}
-use Rattle.questions.specs.declared.question.Question.{Question}
+use Rattle.questions.specs.Spelling.{numbers_text, AllSized, floats, coordinates, TwoWords}
 
--- the name stands at `from` in a line that ends at `to`, and the line goes on at `next`
-pub record NameAt (bytes : List ℕ) (from to : ℕ) (name : List ℕ) (next : ℕ) : Type 0 where
-  pub inside : Inside bytes from to
-  pub after : Inside bytes next to
-  pub whole : part bytes from to ≡ name ++ part bytes next to
+-- a line by the two words of a name and what is left after them
+abbrev pub called : List ℕ → List ℕ → List ℕ → List ℕ
+called family call rest = family ++ (32 ∷ (call ++ rest))
 
--- the numbers xs stand from `from` up to `stop` in a line that ends at `to`, and no number follows them
-pub record NumbersAt (bytes : List ℕ) (from to : ℕ) (xs : List Float) (stop : ℕ) : Type 0 where
+-- the line begins with two words, and `rest` is left after them
+pub record NameFirst (line family call rest : List ℕ) : Type 0 where
+  pub first : front family ≡ family
+  pub second : front call ≡ call
+  pub parted : Parted rest
+  pub whole : line ≡ called family call rest
+
+-- the line begins with the numbers xs, no number follows them, and `rest` is left
+pub record NumbersFirst (line : List ℕ) (xs : List Float) (rest : List ℕ) : Type 0 where
   pub bits : List ℕ
   pub sized : AllSized bits
   pub are : floats bits ≡ xs
-  pub whole : part bytes from to ≡ numbers_text bits ++ part bytes stop to
-  pub after : Inside bytes from to → Inside bytes stop to
-  pub none : Inside bytes from to → NoNumber bytes stop to
+  pub whole : line ≡ numbers_text bits ++ rest
+  pub none : NoNumber rest
 
--- what was read of the line from `from` up to `to` is held, and the line spells it; or nothing was read, and the
--- line spells nothing of the kind
-abbrev pub Reads : {X Y : Type 0} →
-    List ℕ → ℕ → ℕ → (X → Y) → (List ℕ → Y → Type 0) → Option X → Type 0
-Reads {Y = Y} bytes from to held spells o =
-    MatchOption o (Inside bytes from to → (y : Y) → spells (part bytes from to) y → ⊥)
-    (λ x. Inside bytes from to × spells (part bytes from to) (held x))
+-- what was read is held, and is spelled; or nothing was read, and nothing of the kind is spelled
+abbrev pub Reads : {X Y : Type 0} → (X → Y) → (Y → Type 0) → Option X → Type 0
+Reads {Y = Y} held Spelled o = MatchOption o ((y : Y) → Spelled y → ⊥) (λ x. Spelled (held x))
 
--- the line asks nothing of the host
-pub record NoHost (line : List ℕ) : Type 0 where
-  pub sqrt : (x : Float) → Spells line (Sqrt x) → ⊥
-  pub hypot : (x y : Float) → Spells line (Hypot x y) → ⊥
-  pub sin : (x : Float) → Spells line (Sin x) → ⊥
-  pub cos : (x : Float) → Spells line (Cos x) → ⊥
-  pub asin : (x : Float) → Spells line (Asin x) → ⊥
-  pub atan2 : (y x : Float) → Spells line (Atan2 y x) → ⊥
+-- the call of the host with the numbers xs asks this
+abbrev pub HostCall : List ℕ → List Float → Asked → Type 0
+HostCall call xs (Sqrt x) = (call ≡ codes "sqrt") × (xs ≡ x ∷ [])
+HostCall call xs (Hypot x y) = (call ≡ codes "hypot") × (xs ≡ x ∷ (y ∷ []))
+HostCall call xs (Sin x) = (call ≡ codes "sin") × (xs ≡ x ∷ [])
+HostCall call xs (Cos x) = (call ≡ codes "cos") × (xs ≡ x ∷ [])
+HostCall call xs (Asin x) = (call ≡ codes "asin") × (xs ≡ x ∷ [])
+HostCall call xs (Atan2 y x) = (call ≡ codes "atan2") × (xs ≡ y ∷ (x ∷ []))
+HostCall call xs _ = ⊥
 
--- the line asks nothing of the plane
-pub record NoPlane (line : List ℕ) : Type 0 where
-  pub distance : (p q : Point) → Spells line (Distance p q) → ⊥
-  pub ratio : (t : Float) (p q : Point) → Spells line (Ratio t p q) → ⊥
-  pub along : (d : Float) (p q : Point) → Spells line (Along d p q) → ⊥
-  pub length : (ps : List Point) → Spells line (Length ps) → ⊥
-  pub frechet : (ps qs : List Point) → Spells line (Frechet ps qs) → ⊥
+-- the call of the plane with the numbers xs asks this
+abbrev pub PlaneCall : List ℕ → List Float → Asked → Type 0
+PlaneCall call xs (Distance p q) = (call ≡ codes "distance") × (xs ≡ coordinates (p ∷ (q ∷ [])))
+PlaneCall call xs (Ratio t p q) = (call ≡ codes "ratio") × (xs ≡ t ∷ coordinates (p ∷ (q ∷ [])))
+PlaneCall call xs (Along d p q) = (call ≡ codes "along") × (xs ≡ d ∷ coordinates (p ∷ (q ∷ [])))
+PlaneCall call xs (Length ps) = (call ≡ codes "length") × (xs ≡ coordinates ps)
+PlaneCall call xs _ = ⊥
 
--- a question that the line spells, or none where it spells no question of one kind
-abbrev pub Asks : List ℕ → ℕ → ℕ → (List ℕ → Type 0) → Option Question → Type 0
-Asks bytes from to NoneOf o =
-    MatchOption o (Inside bytes from to → NoneOf (part bytes from to))
-    (λ q. Inside bytes from to × Spells (part bytes from to) (asked q))
+-- the text asks for the distance of two lines, which stand before a slash and after it
+abbrev pub TwoLines : List ℕ → Asked → Type 0
+TwoLines text (Frechet ps qs) = TwoWords text [] (coordinates ps) (coordinates qs)
+TwoLines text _ = ⊥

@@ -1,6 +1,7 @@
 -- Defines which lines spell a question: a name, and numbers as 64 bits in hexadecimal capitals.
-use Rattle.std.specs.Prelude.{◌≡◌, ℕ, ◌^◌, ◌<◌, List, [], ◌∷◌, ◌++◌, map, codes, from_bits, Float}
+use Rattle.std.specs.Prelude.{◌≡◌, ℕ, ◌^◌, ◌<◌, List, [], ◌∷◌, ◌++◌, map, get_or, codes, from_bits, Float}
 use Rattle.std.specs.Float.{binary64}
+use Rattle.std.specs.Float.Ieee.{nan}
 use Rattle.text.specs.Grammar.{spaced}
 use Rattle.points.specs.declared.point.Point.{Point}
 use Rattle.questions.specs.Asked.{Asked}
@@ -40,6 +41,10 @@ pub record TwoWords (line name : List ℕ) (xs ys : List Float) : Type 0 where
 abbrev pub coordinates : List Point → List Float
 coordinates [] = []
 coordinates (p ∷ ps) = p.x ∷ (p.y ∷ coordinates ps)
+
+-- the point of a pair of coordinates
+abbrev pub pair_point : List Float → Point
+pair_point xs = record { x = get_or xs 0 nan; y = get_or xs 1 nan }
 
 abbrev pub Spells : List ℕ → Asked → Type 0
 Spells line (asks.Sqrt x) = Words line (codes "host sqrt") (x ∷ [])

@@ -1,167 +1,79 @@
-// The arguments of a call: the numbers after its name, as many as it takes.
-ghost use Rattle.std.specs.Prelude.{◌≡◌, List, [], ◌∷◌, length as count_of, IfOk, vec_items, MatchOption, ◌≢◌, Float};
+// The arguments of a call: the numbers after its name.
+ghost use Rattle.std.specs.Prelude.{◌≡◌, List, [], length as count_of, IfOk, map, vec_items, MatchOption, ◌≢◌, Float};
 ghost use Rattle.points.specs.declared.point.Point as Place;
-ghost use Rattle.questions.specs.Spelling.{Words, TwoWords, coordinates};
-ghost use Rattle.questions.specs.Reading.{Reads};
+ghost use Rattle.questions.specs.Asked.{asked};
+ghost use Rattle.questions.specs.Spelling.{Words, TwoWords, coordinates, pair_point};
+ghost use Rattle.questions.specs.Reading.{NumbersFirst, Reads, TwoLines};
 
-use crate::numbers::{after_name, numbers_after, numbers_at};
+use crate::question::Question;
 use points::point::Point;
 use std::alloc::{AllocError, Global};
-use text::lines::Line;
+use std::num::f64_from_bits_with_nan;
+use text::line::Line;
 
-// The numbers after the name, if they are so many.
-fn exactly(
-    heap: Global,
-    text: &[u8],
-    line: Line,
-    name: &[u8],
-    count: usize,
-) -> Result<Option<Vec<f64>>, AllocError>
-    ensures { IfOk result (Reads text.now line.start line.end vec_items
-        (λ l xs. (count_of xs ≡ count) × Words l name.now xs)) }
+// The numbers at the front of a line, as many as stand there, and what is left after them.
+fn split_numbers<'a>(heap: Global, line: Line<'a>) -> Result<(Vec<f64>, Line<'a>), AllocError>
+    ensures { IfOk result (λ p. NumbersFirst line.entry.bytes.now p.0.items p.1.bytes.now) }
 {
-    let Some(v) = numbers_after(heap, text, line.start, line.end, name)? else {
-        return Ok(None);
-    };
-    if v.len() == count {
-        Ok(Some(v))
-    } else {
-        Ok(None)
+    let mut numbers = Vec::new(heap);
+    let mut rest = line;
+    while let Some((bits, after)) = rest.split_number() {
+        numbers.push(f64_from_bits_with_nan(bits))?;
+        rest = after;
     }
+    Ok((numbers, rest))
 }
 
-pub(crate) fn one_number(
-    heap: Global,
-    text: &[u8],
-    line: Line,
-    name: &[u8],
-) -> Result<Option<f64>, AllocError>
-    ensures { IfOk result (Reads text.now line.start line.end (λ x. x)
-        (λ l x. Words l name.now (x ∷ []))) }
+// The numbers that are all that a line has.
+pub(crate) fn numbers(heap: Global, line: Line) -> Result<Option<Vec<f64>>, AllocError>
+    ensures { IfOk result (Reads vec_items (Words line.entry.bytes.now [])) }
 {
-    let Some(v) = exactly(heap, text, line, name, 1)? else {
-        return Ok(None);
-    };
-    Ok(Some(v[0]))
+    let (numbers, rest) = split_numbers(heap, line)?;
+    Ok(rest.is_empty().then_some(numbers))
 }
 
-pub(crate) fn two_numbers(
-    heap: Global,
-    text: &[u8],
-    line: Line,
-    name: &[u8],
-) -> Result<Option<(f64, f64)>, AllocError>
-    ensures { IfOk result (Reads text.now line.start line.end (λ p. p)
-        (λ l p. Words l name.now (p.0 ∷ (p.1 ∷ [])))) }
+// The points of these pairs of coordinates.
+fn each_point(heap: Global, pairs: &[[f64; 2]]) -> Result<Vec<Point>, AllocError>
+    ensures { IfOk result (λ v. v.items ≡ map pair_point pairs.now) }
 {
-    let Some(v) = exactly(heap, text, line, name, 2)? else {
-        return Ok(None);
-    };
-    Ok(Some((v[0], v[1])))
-}
-
-pub(crate) fn two_points(
-    heap: Global,
-    text: &[u8],
-    line: Line,
-    name: &[u8],
-) -> Result<Option<(Point, Point)>, AllocError>
-    ensures { IfOk result (Reads text.now line.start line.end (λ p. p)
-        (λ l p. Words l name.now (coordinates (p.0 ∷ (p.1 ∷ []))))) }
-{
-    let Some(v) = exactly(heap, text, line, name, 4)? else {
-        return Ok(None);
-    };
-    Ok(Some((Point { x: v[0], y: v[1] }, Point { x: v[2], y: v[3] })))
-}
-
-pub(crate) fn number_and_two_points(
-    heap: Global,
-    text: &[u8],
-    line: Line,
-    name: &[u8],
-) -> Result<Option<(f64, Point, Point)>, AllocError>
-    ensures { IfOk result (Reads text.now line.start line.end (λ p. p)
-        (λ l p. Words l name.now (p.0 ∷ coordinates (p.1 ∷ (p.2 ∷ []))))) }
-{
-    let Some(v) = exactly(heap, text, line, name, 5)? else {
-        return Ok(None);
-    };
-    Ok(Some((v[0], Point { x: v[1], y: v[2] }, Point { x: v[3], y: v[4] })))
+    pairs
+        .iter()
+        .map(|[x, y]| Point { x: *x, y: *y })
+        .collect(heap)
 }
 
 // The points that these numbers are the coordinates of: none where the last point has no y.
-fn points_of(heap: Global, numbers: &[f64]) -> Result<Option<Vec<Point>>, AllocError>
+pub(crate) fn points_of(heap: Global, numbers: &[f64]) -> Result<Option<Vec<Point>>, AllocError>
     ensures { IfOk result (λ o. MatchOption o
         ((ps : List Place.Point) → count_of (coordinates ps) ≢ count_of numbers.now)
         (λ v. coordinates v.items ≡ numbers.now)) }
 {
-    if numbers.len() % 2 != 0 {
-        return Ok(None);
-    }
-    let mut points = Vec::new(heap);
-    let mut i = 0;
-    while i < numbers.len() {
-        points.push(Point {
-            x: numbers[i],
-            y: numbers[i + 1],
-        })?;
-        i += 2;
-    }
-    Ok(Some(points))
-}
-
-// The points of a line, of which there may be none.
-pub(crate) fn points_after(
-    heap: Global,
-    text: &[u8],
-    line: Line,
-    name: &[u8],
-) -> Result<Option<Vec<Point>>, AllocError>
-    ensures { IfOk result (Reads text.now line.start line.end vec_items
-        (λ l ps. Words l name.now (coordinates ps))) }
-{
-    let Some(v) = numbers_after(heap, text, line.start, line.end, name)? else {
+    let (pairs, []) = numbers.as_chunks::<2>() else {
         return Ok(None);
     };
-    points_of(heap, v.as_slice())
+    Ok(Some(each_point(heap, pairs)?))
 }
 
 // The numbers before a slash and after it.
-fn parted_numbers(
-    heap: Global,
-    text: &[u8],
-    line: Line,
-    name: &[u8],
-) -> Result<Option<(Vec<f64>, Vec<f64>)>, AllocError>
-    ensures { IfOk result (Reads {Y = List Float × List Float}
-        text.now line.start line.end
-        (λ p. (p.0.items, p.1.items))
-        (λ l p. TwoWords l name.now p.0 p.1)) }
+fn parted_numbers(heap: Global, line: Line) -> Result<Option<(Vec<f64>, Vec<f64>)>, AllocError>
+    ensures { IfOk result (Reads {Y = List Float × List Float} (λ p. (p.0.items, p.1.items))
+        (λ p. TwoWords line.entry.bytes.now [] p.0 p.1)) }
 {
-    let Some(first) = after_name(text, line.start, line.end, name) else {
+    let (before, rest) = split_numbers(heap, line)?;
+    let Some(rest) = rest.strip_prefix(b" /") else {
         return Ok(None);
     };
-    let (before, stop) = numbers_at(heap, text, first, line.end)?;
-    let Some(after) = numbers_after(heap, text, stop, line.end, b" /")? else {
+    let Some(after) = numbers(heap, rest)? else {
         return Ok(None);
     };
     Ok(Some((before, after)))
 }
 
 // The points of two lines, before a slash and after it.
-pub(crate) fn two_lines(
-    heap: Global,
-    text: &[u8],
-    line: Line,
-    name: &[u8],
-) -> Result<Option<(Vec<Point>, Vec<Point>)>, AllocError>
-    ensures { IfOk result (Reads {Y = List Place.Point × List Place.Point}
-        text.now line.start line.end
-        (λ p. (p.0.items, p.1.items))
-        (λ l p. TwoWords l name.now (coordinates p.0) (coordinates p.1))) }
+pub(crate) fn two_lines(heap: Global, line: Line) -> Result<Option<Question>, AllocError>
+    ensures { IfOk result (Reads asked (TwoLines line.entry.bytes.now)) }
 {
-    let Some((before, after)) = parted_numbers(heap, text, line, name)? else {
+    let Some((before, after)) = parted_numbers(heap, line)? else {
         return Ok(None);
     };
     let Some(ps) = points_of(heap, before.as_slice())? else {
@@ -170,5 +82,5 @@ pub(crate) fn two_lines(
     let Some(qs) = points_of(heap, after.as_slice())? else {
         return Ok(None);
     };
-    Ok(Some((ps, qs)))
+    Ok(Some(Question::Frechet(ps, qs)))
 }

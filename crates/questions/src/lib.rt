@@ -4,7 +4,7 @@
 pub mod answer;
 mod arguments;
 pub mod ask;
-mod numbers;
+mod name;
 mod printed;
 pub mod question;
 mod reading;

@@ -1,48 +1,40 @@
-// The line that is printed for an answer.
-ghost use Rattle.std.specs.Prelude.{◌≡◌, IfOk, string_bytes};
-ghost use Rattle.questions.specs.Answers.{number_text, point_text, printed, malformed_text};
+// What is printed for an answer.
+ghost use Rattle.std.specs.Prelude.{◌≡◌, Some, to_bits};
+ghost use Rattle.std.specs.Float.{binary64};
+ghost use Rattle.questions.specs.Answers.{printed};
 
 use crate::ask::Answer;
 use points::point::Point;
-use std::alloc::{AllocError, Global};
+use std::fmt;
 use std::num::f64_to_bits_with_nan;
-use text::hex::bits_text;
+use text::hex::Bits;
 
-// The bits of a number as 16 hexadecimal capitals.
-fn number_text(heap: Global, x: f64) -> Result<String, AllocError>
-    ensures { IfOk result (λ s. string_bytes s ≡ number_text x) }
+fn bits(x: f64) -> Bits
+    ensures { result.0 ≡ to_bits binary64 x }
 {
-    let digits = bits_text(f64_to_bits_with_nan(x));
-    let mut text = String::new(heap);
-    for b in digits.iter() {
-        text.push(*b as char)?;
-    }
-    Ok(text)
+    Bits(f64_to_bits_with_nan(x))
 }
 
-// The bits of the two coordinates.
-fn point_text(heap: Global, p: Point) -> Result<String, AllocError>
-    ensures { IfOk result (λ s. string_bytes s ≡ point_text p) }
-{
-    let x = number_text(heap, p.x)?;
-    let y = number_text(heap, p.y)?;
-    format!(in heap; "{x} {y}")
-}
+// A number by its bits, and a point by those of its two coordinates.
+impl fmt::Display for Answer {
+    ghost output = { λ answer. Some (printed answer) };
 
-// What is printed for a line that spells no question.
-pub(crate) fn malformed_text(heap: Global) -> Result<String, AllocError>
-    ensures { IfOk result (λ s. string_bytes s ≡ malformed_text) }
-{
-    String::from_str(heap, "refused 14")
-}
-
-pub(crate) fn answer_text(heap: Global, answer: Answer) -> Result<String, AllocError>
-    ensures { IfOk result (λ s. string_bytes s ≡ printed answer) }
-{
-    match answer {
-        Answer::Number(x) => number_text(heap, x),
-        Answer::Point(p) => point_text(heap, p),
-        Answer::NoAnswer => String::from_str(heap, "none"),
-        Answer::Refused(number) => format!(in heap; "refused {number}"),
+    fn fmt<W: fmt::Write>(&self, f: &mut fmt::Formatter<W>) -> fmt::Result {
+        match *self {
+            Answer::Number(x) => {
+                let x = bits(x);
+                write!(f, "{x}")
+            }
+            Answer::Point(Point { x, y }) => {
+                let x = bits(x);
+                let y = bits(y);
+                write!(f, "{x} {y}")
+            }
+            Answer::NoAnswer => write!(f, "none"),
+            Answer::Refused(cause) => {
+                let number = cause.number();
+                write!(f, "refused {number}")
+            }
+        }
     }
 }

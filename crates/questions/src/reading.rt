@@ -1,69 +1,64 @@
-// The question that a line spells. Each call is tried by its name, so that one more is a few lines more.
+// The question that a line spells.
 ghost use Rattle.std.specs.Prelude.{IfOk};
-ghost use Rattle.questions.specs.Spelling.{Unspelled};
-ghost use Rattle.questions.specs.Reading.{Asks, NoHost, NoPlane};
+ghost use Rattle.questions.specs.Asked.{asked};
+ghost use Rattle.questions.specs.Spelling.{Spells};
+ghost use Rattle.questions.specs.Reading.{Reads, HostCall, PlaneCall};
 
-use crate::arguments::{
-    number_and_two_points, one_number, points_after, two_lines, two_numbers, two_points,
-};
+use crate::arguments::{numbers, points_of, two_lines};
+use crate::name::split_name;
 use crate::question::Question;
+use points::point::Point;
 use std::alloc::{AllocError, Global};
-use text::lines::Line;
+use text::line::Line;
 
-fn host_question(heap: Global, text: &[u8], line: Line) -> Result<Option<Question>, AllocError>
-    ensures { IfOk result (Asks text.now line.start line.end NoHost) }
+fn host_question(call: &str, numbers: &[f64]) -> Option<Question>
+    ensures { Reads asked (HostCall call.now numbers.now) result }
 {
-    if let Some(x) = one_number(heap, text, line, b"host sqrt")? {
-        return Ok(Some(Question::Sqrt(x)));
+    match (call, numbers) {
+        ("sqrt", [x]) => Some(Question::Sqrt(*x)),
+        ("hypot", [x, y]) => Some(Question::Hypot(*x, *y)),
+        ("sin", [x]) => Some(Question::Sin(*x)),
+        ("cos", [x]) => Some(Question::Cos(*x)),
+        ("asin", [x]) => Some(Question::Asin(*x)),
+        ("atan2", [y, x]) => Some(Question::Atan2(*y, *x)),
+        _ => None,
     }
-    if let Some((x, y)) = two_numbers(heap, text, line, b"host hypot")? {
-        return Ok(Some(Question::Hypot(x, y)));
-    }
-    if let Some(x) = one_number(heap, text, line, b"host sin")? {
-        return Ok(Some(Question::Sin(x)));
-    }
-    if let Some(x) = one_number(heap, text, line, b"host cos")? {
-        return Ok(Some(Question::Cos(x)));
-    }
-    if let Some(x) = one_number(heap, text, line, b"host asin")? {
-        return Ok(Some(Question::Asin(x)));
-    }
-    if let Some((y, x)) = two_numbers(heap, text, line, b"host atan2")? {
-        return Ok(Some(Question::Atan2(y, x)));
-    }
-    Ok(None)
 }
 
-fn plane_question(heap: Global, text: &[u8], line: Line) -> Result<Option<Question>, AllocError>
-    ensures { IfOk result (Asks text.now line.start line.end NoPlane) }
+fn plane_question(heap: Global, call: &str, numbers: &[f64]) -> Result<Option<Question>, AllocError>
+    ensures { IfOk result (Reads asked (PlaneCall call.now numbers.now)) }
 {
-    if let Some((p, q)) = two_points(heap, text, line, b"euclidean distance")? {
-        return Ok(Some(Question::Distance(p, q)));
-    }
-    if let Some((ratio, p, q)) = number_and_two_points(heap, text, line, b"euclidean ratio")? {
-        return Ok(Some(Question::Ratio(ratio, p, q)));
-    }
-    if let Some((distance, p, q)) = number_and_two_points(heap, text, line, b"euclidean along")? {
-        return Ok(Some(Question::Along(distance, p, q)));
-    }
-    if let Some(points) = points_after(heap, text, line, b"euclidean length")? {
-        return Ok(Some(Question::Length(points)));
-    }
-    if let Some((ps, qs)) = two_lines(heap, text, line, b"euclidean frechet")? {
-        return Ok(Some(Question::Frechet(ps, qs)));
-    }
-    Ok(None)
+    Ok(match (call, numbers) {
+        ("distance", [px, py, qx, qy]) => {
+            Some(Question::Distance(Point { x: *px, y: *py }, Point { x: *qx, y: *qy }))
+        }
+        ("ratio", [ratio, px, py, qx, qy]) => {
+            Some(Question::Ratio(*ratio, Point { x: *px, y: *py }, Point { x: *qx, y: *qy }))
+        }
+        ("along", [d, px, py, qx, qy]) => {
+            Some(Question::Along(*d, Point { x: *px, y: *py }, Point { x: *qx, y: *qy }))
+        }
+        ("length", _) => points_of(heap, numbers)?.map(Question::Length),
+        _ => None,
+    })
 }
 
-pub(crate) fn read_question(
-    heap: Global,
-    text: &[u8],
-    line: Line,
-) -> Result<Option<Question>, AllocError>
-    ensures { IfOk result (Asks text.now line.start line.end Unspelled) }
+// The question of a call that is found by its name, so that one more is a line more.
+pub(crate) fn read_question(heap: Global, line: Line) -> Result<Option<Question>, AllocError>
+    ensures { IfOk result (Reads asked (Spells line.entry.bytes.now)) }
 {
-    if let Some(question) = host_question(heap, text, line)? {
-        return Ok(Some(question));
+    let Some((family, call, rest)) = split_name(line) else {
+        return Ok(None);
+    };
+    if family == "euclidean" && call == "frechet" {
+        return two_lines(heap, rest);
     }
-    plane_question(heap, text, line)
+    let Some(numbers) = numbers(heap, rest)? else {
+        return Ok(None);
+    };
+    match family {
+        "host" => Ok(host_question(call, numbers.as_slice())),
+        "euclidean" => plane_question(heap, call, numbers.as_slice()),
+        _ => Ok(None),
+    }
 }

@@ -1,20 +1,20 @@
 -- An append on its way.
-use Rattle.std.proofs.Common.{◌≡◌, ℕ, ◌+◌, ◌<◌, ◌≤◌, List, [], ◌∷◌, ◌++◌, length, drop, sym, refl, ap, ◌∙◌, subst, inl, inr, append_assoc, append-nil, arith, length-append}
+use Rattle.std.proofs.Common.{◌≡◌, ℕ, ◌+◌, ◌<◌, List, [], ◌∷◌, ◌++◌, length, sym, refl, ◌∙◌, subst, inl, inr, append_assoc, append-nil, arith}
 use Rattle.points.specs.declared.point.Point.{Point}
 use Rattle.table.specs.declared.Record.{Record}
 use Rattle.table.specs.declared.Head.{Head}
 use Rattle.points.specs.Finite.{first_unfit}
-use Rattle.table.specs.Append.{new_nodes, last_index, AppendOk, HasRoom}
-use Rattle.table.specs.Chains.{Node, held_in}
-use Rattle.table.specs.Links.{filled, inserted_table, inserted_head, newest_head}
+use Rattle.table.specs.Append.{last_index, AppendOk, HasRoom}
+use Rattle.table.specs.Chains.{Node}
+use Rattle.table.specs.Links.{inserted_table, inserted_head}
 use Rattle.points.specs.Limits.{last_edit}
-use Rattle.table.specs.Outcomes.{Frame}
 use Rattle.table.specs.Whole.{Checked, Whole, line_of, free_of}
-use Rattle.table.proofs.Segments.{AllHeld, node, node_same, all_join, all_map, length_nodes}
-use Rattle.table.proofs.Places.{Place, Ended, before_inside}
-use Rattle.table.proofs.Moves.{place_insert}
-use Rattle.table.proofs.Ends.{UpTo, place_start, start_held, start_total, place_end}
-use Rattle.table.proofs.Zeroth.{kept_refl, kept_then, kept_insert}
+use Rattle.table.proofs.Segments.{all_map, length_nodes}
+use Rattle.table.proofs.Places.{Ended, before_inside}
+use Rattle.table.proofs.Ends.{UpTo, place_start, start_held, start_total}
+use Rattle.table.proofs.Splicing.{Splice, Splicing, splice_step, splice_room}
+use Rattle.table.proofs.Walks.{walk_end}
+use Rattle.table.proofs.Zeroth.{kept_refl}
 
 ended_more : (u : List Node) (d : Node) (cs : List Node) → Ended (u ++ d ∷ cs) (last_index d.index cs)
 ended_more u d [] = inr (u, d, refl, refl)
@@ -27,21 +27,10 @@ ended_last [] = inl (refl, refl)
 ended_last (c ∷ cs) = ended_more [] c cs
 
 module _ (t0 : List Record) (h0 : Head) (ps0 : List Point) where
-  -- a is the line so far, ps is still to come, f is free
-  pub record Append (t : List Record) (h : Head) (before : ℕ) (ps : List Point) (a f : List Node)
-      : Type 0 where
-    pub place : Place t h.first h.free before 0 a [] f
-    pub kept : Frame t0 t
-    pub count_is : h.count ≡ length a
-    pub total : length a + length f + 1 ≡ length t
-    pub room : length ps ≤ length f
-    pub line : a ++ new_nodes (h0.newest + 1) f ps
-        ≡ line_of t0 h0 ++ new_nodes (h0.newest + 1) (free_of t0 h0) ps0
-    pub rest : drop (length ps) f ≡ drop (length ps0) (free_of t0 h0)
-    pub top : AllHeld (UpTo (h0.newest + 1)) a
-
+  -- the points ps are still to come, at the line's end
   abbrev pub Appending : List Record → Head → ℕ → List Point → Type 0
-  Appending t h before ps = (a : List Node) × (f : List Node) × Append t h before ps a f
+  Appending t h before ps =
+      Splicing t0 (line_of t0 h0) (free_of t0 h0) ps0 (h0.newest + 1) 0 [] t h before ps
 
   pub append_start : (before : ℕ) → Whole t0 h0 → HasRoom t0 h0 ps0 → before ≡ last_index 0 (line_of t0 h0)
       → Appending t0 h0 before ps0
@@ -53,18 +42,20 @@ module _ (t0 : List Record) (h0 : Head) (ps0 : List Point) where
         line_of t0 h0,
         free_of t0 h0,
         record {
-          place = record {
-            front = m.back;
-            back = refl;
-            spare = m.spare;
-            ends = ended_last (line_of t0 h0);
-            line_a = m.line_b;
-            line_b = tt;
-            frees = m.frees;
+          walk = record {
+            place = record {
+              front = m.back;
+              back = refl;
+              spare = m.spare;
+              ends = ended_last (line_of t0 h0);
+              line_a = m.line_b;
+              line_b = tt;
+              frees = m.frees;
+            };
+            kept = kept_refl t0;
+            count_is = omega arith;
+            total = omega arith;
           };
-          kept = kept_refl t0;
-          count_is = sym n;
-          total = all;
           room = omega (arith, w.fits);
           line = refl;
           rest = refl;
@@ -73,50 +64,24 @@ module _ (t0 : List Record) (h0 : Head) (ps0 : List Point) where
         },
       )
 
-  module _ (t : List Record) (h : Head) (before : ℕ) (p : Point) (ps : List Point) where
-    step : (a f : List Node) → Append t h before (p ∷ ps) a f → h0.newest < last_edit
-        → Appending (inserted_table t h before 0 p (h0.newest + 1)) (inserted_head t h before) h.free ps
-    step a [] u l = absurd (omega (arith, u.room))
-    step a (c ∷ f) u l =
-        let e = h0.newest + 1 in
-        let r = filled p 0 e in
-        let same : node h.free (held_in r) ≡ node c.index (held_in r) =
-        node_same u.place.spare.0 refl in
-        let kept = kept_insert t before h.free r u.place.spare.1 in (
-          a ++ node h.free (held_in r) ∷ [],
-          f,
-          record {
-            place = place_insert t h.first h.free before 0 a [] f c u.place r refl (omega arith);
-            kept = kept_then t0 t (inserted_table t h before 0 p e) u.kept kept;
-            count_is = simp length-append (omega (arith, u.count_is));
-            total = rw kept.size (simp length-append (omega (arith, u.total)));
-            room = omega (arith, u.room);
-            line = append_assoc a (node h.free (held_in r) ∷ []) (new_nodes e f ps)
-                ∙ (ap (λ v. a ++ v ∷ new_nodes e f ps) same ∙ u.line);
-            rest = u.rest;
-            top = all_join (UpTo e) a (node h.free (held_in r) ∷ []) u.top (omega arith, tt);
-          },
-        )
-
-    inside : (a f : List Node) → Append t h before (p ∷ ps) a f
-        → (h.free < length t) × (h.count + 1 < length t)
-    inside a [] u = absurd (omega (arith, u.room))
-    inside a (c ∷ f) u = (u.place.spare.2, omega (arith, u.count_is, u.total))
-
-    module _ (qs : List Point) (u : Appending t h before qs) (q : qs ≡ p ∷ ps) where
-      opened : Append t h before (p ∷ ps) u.0 u.1
-      opened = subst (λ v. Append t h before v u.0 u.1) q u.2
-
-      pub append_more : h0.newest < last_edit
-          → Appending (inserted_table t h before 0 p (h0.newest + 1)) (inserted_head t h before) h.free ps
-      append_more = step u.0 u.1 opened
-
-      pub append_inside : (h.free < length t) × (h.count + 1 < length t)
-      append_inside = inside u.0 u.1 opened
-
   module _ (t : List Record) (h : Head) (before : ℕ) (ps : List Point) (u : Appending t h before ps) where
-    pub append_before : 0 < length t → before < length t
-    append_before = before_inside t h.first h.free before 0 u.0 [] u.1 u.2.place
+    at_front : (qs : List Point) → ps ≡ qs
+        → Splice t0 (line_of t0 h0) (free_of t0 h0) ps0 (h0.newest + 1) 0 [] t h before qs u.0 u.1
+    at_front qs z =
+        subst (λ v. Splice t0 (line_of t0 h0) (free_of t0 h0) ps0 (h0.newest + 1) 0 [] t h before v u.0 u.1) z u.2
+
+    module _ (p : Point) (qs : List Point) (z : ps ≡ p ∷ qs) where
+      pub append_more : h0.newest < last_edit
+          → Appending (inserted_table t h before 0 p (h0.newest + 1)) (inserted_head t h before) h.free qs
+      append_more l =
+          splice_step t0 (line_of t0 h0) (free_of t0 h0) ps0 (h0.newest + 1) 0 [] t h before p qs u.0 u.1
+          (at_front (p ∷ qs) z) (omega arith)
+
+      pub append_inside : (before < length t) × (h.free < length t) × (h.count + 1 < length t0)
+      append_inside =
+          let r = splice_room t0 (line_of t0 h0) (free_of t0 h0) ps0 (h0.newest + 1) 0 [] t h before p qs u.0 u.1
+          (at_front (p ∷ qs) z) in
+          (before_inside t h.first h.free before 0 u.0 [] u.1 u.2.walk.place (omega (arith, r.0)), r.0, omega (arith, r.1, u.2.walk.kept.size))
 
     pub append_at : (t' : List Record) (h' : Head) (before' : ℕ) (ps' : List Point)
         → t' ≡ t → h' ≡ h → before' ≡ before → ps' ≡ ps → Appending t' h' before' ps'
@@ -129,9 +94,8 @@ module _ (t0 : List Record) (h0 : Head) (ps0 : List Point) where
     append_ok z checked fit l room t' first free count edit e1 e2 e3 e4 e5 =
         let a = u.0 in
         let f = u.1 in
-        let v : Append t h before [] a f = subst (λ v. Append t h before v a f) z u.2 in
-        let laid = place_end t (newest_head h (h0.newest + 1)) before a f v.place (omega arith)
-        v.top v.count_is v.total in
+        let v = at_front [] z in
+        let laid = walk_end t0 t h before 0 a f v.walk (h0.newest + 1) (omega arith) v.top in
         rw (e1, e2, e3, e4, e5) (record {
           checked = checked;
           fit = fit;
@@ -139,7 +103,7 @@ module _ (t0 : List Record) (h0 : Head) (ps0 : List Point) where
           room = room;
           done = record {
             whole = laid.whole;
-            frame = v.kept;
+            frame = v.walk.kept;
             line = laid.line_is ∙ (sym (append-nil a) ∙ v.line);
             free = laid.free_is ∙ v.rest;
             newest = refl;

@@ -6,6 +6,8 @@ pub mod Apart
 pub mod Exact
 pub mod Zeroth
 pub mod Steps
+pub mod Walks
+pub mod Splicing
 pub mod Appending
 pub mod Undoing
 pub mod Settling

@@ -17,8 +17,7 @@ use Rattle.table.proofs.Ends.{UpTo, start_held, start_total}
 
 -- the points of a new edit, with its number
 abbrev pub new_held : ℕ → List Point → List Held
-new_held e [] = []
-new_held e (p ∷ ps) = record { point = p; edit = e } ∷ new_held e ps
+new_held e ps = map (λ p. record { point = p; edit = e }) ps
 
 pub before_held : (e : ℕ) (cs : List Node) → held_by (nodes_before e cs) ≡ held_before e (held_by cs)
 before_held e [] = refl

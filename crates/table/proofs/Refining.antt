@@ -1,6 +1,7 @@
 -- What was measured and asked for is what is written.
 use Rattle.std.proofs.Common.{◌≡◌, ℕ, zero, suc, ◌+◌, ◌-◌, ◌<◌, ◌≤◌, Bool, true, false, cond, ltb, leb, List, [], ◌∷◌, ◌++◌, length, drop, Ok, Err, Result, sym, refl, ap, ◌∙◌, arith, length-drop, ltb-true, le-leb, leb-true}
 use mathlib.Core.List.{map-append}
+use Rattle.std.specs.Result.{result_unwrap_or}
 use lib.Ieee.{Float}
 use Rattle.points.specs.Faults.{raised, after, at_place, in_layer}
 use Rattle.points.specs.declared.fault.Cause.TheVariants.{NoEditNumber, NoRoom}
@@ -18,7 +19,7 @@ use Rattle.table.specs.Chains.{Node}
 use Rattle.table.specs.Densify.{edit_after, outcome, inserted, DensifyOk}
 use Rattle.table.specs.Lines.{points_of, held_by, kept_line, set_aside}
 use Rattle.points.specs.Limits.{last_edit}
-use Rattle.table.specs.Weave.{or_else, origin, parts_from, pieces_in, parts_in}
+use Rattle.table.specs.Weave.{origin, parts_from, pieces_in, parts_in}
 use Rattle.table.specs.Weave.{woven_after, woven, spent_after, spent, Enough, Woven}
 use Rattle.table.specs.Whole.{Checked, Whole, line_of, free_of, free_count}
 use Rattle.table.proofs.Asides.{woven_aside}
@@ -64,7 +65,7 @@ cut_parts at n (suc c) i xs e =
     let u = after_ok (at (ratio_of i n)) (λ x. after (cut_from at n c (i + 1)) (λ ys. Ok (x ∷ ys))) xs e in
     let v = after_ok (cut_from at n c (i + 1)) (λ ys. Ok (u.0 ∷ ys)) xs u.2 in
     let w : u.0 ∷ v.0 ≡ xs = let q = v.2 in cc in
-    ap (λ r. or_else origin r ∷ parts_from at n c (i + 1)) u.1
+    ap (λ r. result_unwrap_or r origin ∷ parts_from at n c (i + 1)) u.1
     ∙ (ap (λ ys. u.0 ∷ ys) (cut_parts at n c (i + 1) v.0 v.1) ∙ w)
 
 module _ (far : Point → Point → Result Float Fault) (ratio : Point → Point → Float → Result Point Fault)
@@ -73,7 +74,7 @@ module _ (far : Point → Point → Result Float Fault) (ratio : Point → Point
       → parts_in far most ratio p q ≡ xs
   pair_parts p q xs e =
       let u = after_ok (pieces_between far Table most p q) (λ n. cut_from (ratio p q) n (n - 1) 1) xs e in
-      ap (λ r. parts_from (ratio p q) (or_else 0 r) (or_else 0 r - 1) 1) u.1
+      ap (λ r. parts_from (ratio p q) (result_unwrap_or r 0) (result_unwrap_or r 0 - 1) 1) u.1
       ∙ cut_parts (ratio p q) u.0 (u.0 - 1) 1 xs u.2
 
   -- the points of the first pair, and the line behind it
@@ -98,7 +99,7 @@ module _ (far : Point → Point → Result Float Fault) (ratio : Point → Point
         xs = u.0;
         rest = v.0;
         parts = pair_parts p q u.0 here;
-        points = ap (or_else []) here;
+        points = ap (λ r. result_unwrap_or r []) here;
         behind = v.1;
         whole = end;
       }
@@ -157,7 +158,7 @@ module _ (far : Point → Point → Result Float Fault) (ratio : Point → Point
       let end = c.held.point in
       let u = after_ok (at_place (pieces_between far Table most p end) k)
       (λ m. taken_from far Table most (k + 1) (count + (m - 1)) end (points_of (held_by ns))) n q in
-      let is = ap (or_else 0) (placed_ok (pieces_between far Table most p end) k u.0 u.1) in
+      let is = ap (λ r. result_unwrap_or r 0) (placed_ok (pieces_between far Table most p end) k u.0 u.1) in
       let long = length_parts (ratio p end) (pieces_in far most p end) (pieces_in far most p end - 1) 1 in
       let more = taken_after (k + 1) (count + (u.0 - 1)) n end ns u.2 in
       omega arith

@@ -1,26 +1,20 @@
 -- A settle on its way.
-use Rattle.std.proofs.Common.{◌≡◌, ℕ, ◌+◌, ◌-◌, ◌<◌, List, [], ◌∷◌, ◌++◌, map, length, set, sym, refl, ap, ◌∙◌, subst, append_assoc, append-nil, arith, length-append}
+use Rattle.std.proofs.Common.{◌≡◌, ℕ, ◌-◌, ◌<◌, List, [], ◌∷◌, ◌++◌, map, length, set, sym, refl, ap, ◌∙◌, append_assoc, append-nil, arith}
 use Rattle.table.specs.declared.Record.{Record}
 use Rattle.table.specs.declared.Head.{Head}
 use Rattle.table.specs.Chains.{at, Node, held_in}
 use Rattle.table.specs.Links.{numbered, newest_head}
-use Rattle.table.specs.Outcomes.{Frame}
 use Rattle.table.specs.Settle.{settled, Settled, SettleOk}
 use Rattle.table.specs.Whole.{Checked, Whole, line_of, free_of}
 use Rattle.table.proofs.Segments.{AllHeld, node, node_same, all_join, length_nodes}
-use Rattle.table.proofs.Places.{Place}
-use Rattle.table.proofs.Moves.{place_mark}
-use Rattle.table.proofs.Ends.{UpTo, place_start, start_total, place_end}
-use Rattle.table.proofs.Zeroth.{kept_refl, kept_then, kept_set}
+use Rattle.table.proofs.Ends.{UpTo}
+use Rattle.table.proofs.Walks.{Walk, walk_start, walk_mark, walk_end}
 
 module _ (t0 : List Record) (h : Head) where
   -- a is settled, b is still to come
   pub record Settle (t : List Record) (before here left : ℕ) (a b : List Node) : Type 0 where
-    pub place : Place t h.first h.free before here a b (free_of t0 h)
-    pub kept : Frame t0 t
+    pub walk : Walk t0 t h before here a b (free_of t0 h)
     pub left_is : length b ≡ left
-    pub count_is : h.count ≡ length a + length b
-    pub total : length a + length b + length (free_of t0 h) + 1 ≡ length t
     pub line : a ++ map settled b ≡ map settled (line_of t0 h)
     pub done : AllHeld (UpTo 0) a
 
@@ -34,11 +28,8 @@ module _ (t0 : List Record) (h : Head) where
         [],
         line_of t0 h,
         record {
-          place = place_start t0 h w;
-          kept = kept_refl t0;
+          walk = walk_start t0 h w;
           left_is = n ∙ sym z;
-          count_is = omega arith;
-          total = omega (arith, start_total t0 h w);
           line = refl;
           done = tt;
         },
@@ -50,19 +41,14 @@ module _ (t0 : List Record) (h : Head) where
     step before a [] u l = absurd (omega (arith, u.left_is))
     step before a (c ∷ b) u l =
         let r = numbered (at t here) 0 in
-        let zero = ap (λ g. record { point = g.point; edit = 0 }) u.place.back.3 in
-        let same : node here (held_in r) ≡ settled c = node_same u.place.back.0 zero in
-        let kept = kept_set t here r u.place.back.1 in (
+        let zero = ap (λ g. record { point = g.point; edit = 0 }) u.walk.place.back.3 in
+        let same : node here (held_in r) ≡ settled c = node_same u.walk.place.back.0 zero in (
           here,
           a ++ node here (held_in r) ∷ [],
           b,
           record {
-            place = place_mark t h.first h.free before here a b (free_of t0 h) c u.place r refl
-                (omega arith);
-            kept = kept_then t0 t (set t here r) u.kept kept;
+            walk = walk_mark t0 t h before here a b (free_of t0 h) c u.walk r refl (omega arith);
             left_is = omega (arith, u.left_is);
-            count_is = simp length-append (omega (arith, u.count_is));
-            total = rw kept.size (simp length-append (omega (arith, u.total)));
             line = append_assoc a (node here (held_in r) ∷ []) (map settled b)
                 ∙ (ap (λ v. a ++ v ∷ map settled b) same ∙ u.line);
             done = all_join (UpTo 0) a (node here (held_in r) ∷ []) u.done (omega arith, tt);
@@ -71,20 +57,16 @@ module _ (t0 : List Record) (h : Head) where
 
     inside : (before : ℕ) (a b : List Node) → Settle t before here left a b → 0 < left → here < length t
     inside before a [] u l = absurd (omega (arith, u.left_is))
-    inside before a (c ∷ b) u l = u.place.back.2
+    inside before a (c ∷ b) u l = u.walk.place.back.2
 
     last : (before : ℕ) (a b : List Node) → Settle t before here left a b → left ≡ 0
         → Settled t0 h t (newest_head h 0)
     last before a (c ∷ b) u z = absurd (omega (arith, u.left_is))
     last before a [] u z =
-        let f = free_of t0 h in
-        let m : Place t h.first h.free before 0 a [] f =
-        subst (λ v. Place t h.first h.free before v a [] f) u.place.back u.place in
-        let laid = place_end t (newest_head h 0) before a f m (omega arith) u.done
-        (omega (arith, u.count_is)) (omega (arith, u.total)) in
+        let laid = walk_end t0 t h before here a (free_of t0 h) u.walk 0 (omega arith) u.done in
         record {
           whole = laid.whole;
-          frame = u.kept;
+          frame = u.walk.kept;
           line = laid.line_is ∙ (sym (append-nil a) ∙ u.line);
           free = laid.free_is;
           newest = refl;

@@ -1,4 +1,4 @@
--- One step along a chain.
+-- Links that are followed one after the other.
 use Rattle.std.proofs.Common.{Bool, true, false, cond, leb-true, le-leb, Some, None, Option, [], ◌∷◌, ◌≡◌, ℕ, zero, suc, ◌+◌, ◌-◌, ◌<◌, ◌≤◌, List, length, fold, sym, refl, ap, ◌∙◌, subst, arith}
 use Rattle.std.proofs.lemmas.Bool.{and_parts, and_from, both_ways}
 use Rattle.std.specs.ControlFlow.{continue_value}
@@ -10,22 +10,6 @@ use Rattle.std.specs.Option.{MatchOption}
 use Rattle.table.specs.declared.Record.{Record}
 use Rattle.table.specs.Append.{last_index}
 use Rattle.table.specs.Chains.{Chained, at, index_at, next_in_chain, nodes}
-
--- one record of a chain, and the chain behind it
-abbrev pub Link : List Record → ℕ → ℕ → ℕ → ℕ → Type 0
-Link t lo hi n i =
-    (1 ≤ i) × (i < length t) × (lo ≤ (at t i).edit) × ((at t i).edit ≤ hi) × Chained t lo hi n (at t i).next
-
-module _ (t : List Record) (lo hi : ℕ) where
-  pub unlink : (n k i : ℕ) → k < n → Chained t lo hi (n - k) i → Link t lo hi (n - (k + 1)) i
-  unlink n k i h w =
-      let e : n - k ≡ suc (n - (k + 1)) = omega arith in
-      subst (λ v. Chained t lo hi v i) e w
-
-  pub relink : (n k i : ℕ) → k < n → Link t lo hi (n - (k + 1)) i → Chained t lo hi (n - k) i
-  relink n k i h w =
-      let e : suc (n - (k + 1)) ≡ n - k = omega arith in
-      subst (λ v. Chained t lo hi v i) e w
 
 module _ (t : List Record) where
   -- n links, followed one after the other

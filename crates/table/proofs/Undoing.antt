@@ -1,17 +1,15 @@
 -- An undo on its way.
-use Rattle.std.proofs.Common.{◌≡◌, ℕ, ◌+◌, ◌-◌, ◌<◌, true, false, cond, ltb, ◌≢◌, List, [], ◌∷◌, ◌++◌, length, sym, refl, ap, ◌∙◌, subst, append_assoc, append-nil, arith, length-append, le-ltb, lt-ltb}
+use Rattle.std.proofs.Common.{◌≡◌, ℕ, ◌-◌, ◌<◌, true, false, cond, ltb, ◌≢◌, List, [], ◌∷◌, ◌++◌, length, sym, refl, ap, ◌∙◌, append_assoc, append-nil, arith, le-ltb, lt-ltb}
 use Rattle.table.specs.declared.Record.{Record}
 use Rattle.table.specs.declared.Head.{Head}
 use Rattle.table.specs.Chains.{at, Node, Held, held_in}
 use Rattle.table.specs.Links.{freed, released_table, released_head, newest_head}
-use Rattle.table.specs.Outcomes.{Frame}
 use Rattle.table.specs.Undo.{nodes_before, freed_since, Undone, UndoOk}
 use Rattle.table.specs.Whole.{Checked, Whole, line_of, free_of}
 use Rattle.table.proofs.Segments.{AllHeld, node, node_same, all_join, all_map, length_nodes}
-use Rattle.table.proofs.Places.{Place, before_inside}
-use Rattle.table.proofs.Moves.{place_skip, place_drop}
-use Rattle.table.proofs.Ends.{UpTo, place_start, start_held, start_total, place_end}
-use Rattle.table.proofs.Zeroth.{kept_refl, kept_then, kept_drop}
+use Rattle.table.proofs.Places.{before_inside}
+use Rattle.table.proofs.Ends.{UpTo, start_held}
+use Rattle.table.proofs.Walks.{Walk, walk_start, walk_skip, walk_drop, walk_end}
 
 abbrev Below : ℕ → Held → Type 0
 Below e g = g.edit < e
@@ -19,11 +17,8 @@ Below e g = g.edit < e
 module _ (t0 : List Record) (h0 : Head) where
   -- a is kept, b is still to come, f is free
   pub record Undo (t : List Record) (h : Head) (before here left : ℕ) (a b f : List Node) : Type 0 where
-    pub place : Place t h.first h.free before here a b f
-    pub kept : Frame t0 t
+    pub walk : Walk t0 t h before here a b f
     pub left_is : length b ≡ left
-    pub count_is : h.count ≡ length a + length b
-    pub total : length a + length b + length f + 1 ≡ length t
     pub line : a ++ nodes_before h0.newest b ≡ nodes_before h0.newest (line_of t0 h0)
     pub gone : freed_since h0.newest b f ≡ freed_since h0.newest (line_of t0 h0) (free_of t0 h0)
     pub top : AllHeld (UpTo h0.newest) b
@@ -40,11 +35,8 @@ module _ (t0 : List Record) (h0 : Head) where
         line_of t0 h0,
         free_of t0 h0,
         record {
-          place = place_start t0 h0 w;
-          kept = kept_refl t0;
+          walk = walk_start t0 h0 w;
           left_is = n ∙ sym z;
-          count_is = omega arith;
-          total = omega (arith, start_total t0 h0 w);
           line = refl;
           gone = refl;
           top = start_held t0 h0 w;
@@ -58,7 +50,7 @@ module _ (t0 : List Record) (h0 : Head) where
     step_keep a [] f u l n = absurd (omega (arith, u.left_is))
     step_keep a (c ∷ b) f u l n =
         let e = h0.newest in
-        let ed : (at t here).edit ≡ c.held.edit = ap (λ g. g.edit) u.place.back.3 in
+        let ed : (at t here).edit ≡ c.held.edit = ap (λ g. g.edit) u.walk.place.back.3 in
         let lt : c.held.edit < e = omega (arith, u.top.0) in
         let yes : ltb c.held.edit e ≡ true = lt-ltb c.held.edit e lt in
         let k : a ++ cond (ltb c.held.edit e) (c ∷ nodes_before e b) (nodes_before e b)
@@ -70,11 +62,8 @@ module _ (t0 : List Record) (h0 : Head) where
           b,
           f,
           record {
-            place = place_skip t h.first h.free before here a b f c u.place;
-            kept = u.kept;
+            walk = walk_skip t0 t h before here a b f c u.walk;
             left_is = omega (arith, u.left_is);
-            count_is = omega (arith, length-append a (c ∷ []), u.count_is);
-            total = omega (arith, length-append a (c ∷ []), u.total);
             line = append_assoc a (c ∷ []) (nodes_before e b) ∙ (rw yes at k);
             gone = rw yes at g;
             top = u.top.1;
@@ -89,7 +78,7 @@ module _ (t0 : List Record) (h0 : Head) where
     step_drop a [] f u l q = absurd (omega (arith, u.left_is))
     step_drop a (c ∷ b) f u l q =
         let e = h0.newest in
-        let ed : (at t here).edit ≡ c.held.edit = ap (λ g. g.edit) u.place.back.3 in
+        let ed : (at t here).edit ≡ c.held.edit = ap (λ g. g.edit) u.walk.place.back.3 in
         let no : ltb c.held.edit e ≡ false = le-ltb c.held.edit e (omega arith) in
         let k : a ++ cond (ltb c.held.edit e) (c ∷ nodes_before e b) (nodes_before e b)
         ≡ nodes_before e (line_of t0 h0) = u.line in
@@ -99,17 +88,13 @@ module _ (t0 : List Record) (h0 : Head) where
         let g' : freed_since e b (node c.index (held_in (freed 0)) ∷ f)
         ≡ freed_since e (line_of t0 h0) (free_of t0 h0) = rw no at g in
         let same : node here (held_in (freed h.free)) ≡ node c.index (held_in (freed 0)) =
-        node_same u.place.back.0 refl in
-        let kept = kept_drop t before (at t here).next here h.free u.place.back.1 in (
+        node_same u.walk.place.back.0 refl in (
           a,
           b,
           node here (held_in (freed h.free)) ∷ f,
           record {
-            place = place_drop t h.first h.free before here a b f c u.place;
-            kept = kept_then t0 t (released_table t h before here) u.kept kept;
+            walk = walk_drop t0 t h before here a b f c u.walk;
             left_is = omega (arith, u.left_is);
-            count_is = omega (arith, u.count_is);
-            total = rw kept.size (omega (arith, u.total));
             line = rw no at k;
             gone = ap (λ v. freed_since e b (v ∷ f)) same ∙ g';
             top = u.top.1;
@@ -120,21 +105,17 @@ module _ (t0 : List Record) (h0 : Head) where
     step_inside : (a b f : List Node) → Undo t h before here left a b f → 0 < left
         → (here < length t) × (0 < h.count)
     step_inside a [] f u l = absurd (omega (arith, u.left_is))
-    step_inside a (c ∷ b) f u l = (u.place.back.2, omega (arith, u.count_is))
+    step_inside a (c ∷ b) f u l = (u.walk.place.back.2, omega (arith, u.walk.count_is))
 
     last : (a b f : List Node) → Undo t h before here left a b f → left ≡ 0 → 0 < h0.newest → Whole t0 h0
         → Undone t0 h0 t (newest_head h (h0.newest - 1))
     last a (c ∷ b) f u z s w = absurd (omega (arith, u.left_is))
     last a [] f u z s w =
-        let h' = newest_head h (h0.newest - 1) in
-        let m : Place t h.first h.free before 0 a [] f =
-        subst (λ v. Place t h.first h.free before v a [] f) u.place.back u.place in
-        let laid = place_end t h' before a f m (omega (arith, w.latest))
-        (all_map (Below h0.newest) (UpTo (h0.newest - 1)) (λ g p. omega arith) a u.under)
-        (omega (arith, u.count_is)) (omega (arith, u.total)) in
+        let laid = walk_end t0 t h before here a f u.walk (h0.newest - 1) (omega (arith, w.latest))
+        (all_map (Below h0.newest) (UpTo (h0.newest - 1)) (λ g p. omega arith) a u.under) in
         record {
           whole = laid.whole;
-          frame = u.kept;
+          frame = u.walk.kept;
           line = laid.line_is ∙ (sym (append-nil a) ∙ u.line);
           free = laid.free_is ∙ u.gone;
           newest = refl;
@@ -149,11 +130,10 @@ module _ (t0 : List Record) (h0 : Head) where
           (left - 1)
       undo_drop = step_drop u.0 u.1 u.2 u.3
 
-      pub undo_inside : 0 < left → (here < length t) × (0 < h.count)
-      undo_inside = step_inside u.0 u.1 u.2 u.3
-
-      pub undo_before : 0 < length t → before < length t
-      undo_before = before_inside t h.first h.free before here u.0 u.1 u.2 u.3.place
+      pub undo_inside : 0 < left → (before < length t) × (here < length t) × (0 < h.count)
+      undo_inside l =
+          let r = step_inside u.0 u.1 u.2 u.3 l in
+          (before_inside t h.first h.free before here u.0 u.1 u.2 u.3.walk.place (omega (arith, r.0)), r.0, r.1)
 
       pub undo_ok : left ≡ 0 → 0 < h0.newest → Checked t0 h0
           → (t' : List Record) (first free count : ℕ) → t' ≡ t → first ≡ h.first → free ≡ h.free → count ≡ h.count

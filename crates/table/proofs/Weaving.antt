@@ -1,79 +1,27 @@
 -- A densify on its way: the points of one pair, and pair after pair.
-use Rattle.std.proofs.Common.{◌≡◌, ℕ, ◌+◌, ◌-◌, ◌<◌, ◌≤◌, List, [], ◌∷◌, ◌++◌, length, drop, sym, refl, ap, ◌∙◌, subst, append_assoc, append-nil, arith, length-append, length-drop}
+use Rattle.std.proofs.Common.{◌≡◌, ℕ, ◌+◌, ◌-◌, ◌<◌, ◌≤◌, List, [], ◌∷◌, ◌++◌, length, drop, sym, refl, ap, ◌∙◌, subst, append_assoc, append-nil, arith, length-drop}
 use Rattle.std.proofs.lemmas.List.{drop-drop}
 use Rattle.points.specs.declared.point.Point.{Point}
 use Rattle.table.specs.declared.Record.{Record}
 use Rattle.table.specs.declared.Head.{Head}
 use Rattle.table.specs.Append.{new_nodes}
-use Rattle.table.specs.Chains.{at, Node, held_in, point_in}
-use Rattle.table.specs.Links.{filled, inserted_table, inserted_head, newest_head}
+use Rattle.table.specs.Chains.{at, Node, point_in}
+use Rattle.table.specs.Links.{inserted_table, inserted_head, newest_head}
 use Rattle.points.specs.Limits.{last_edit}
-use Rattle.table.specs.Outcomes.{Frame}
 use Rattle.table.specs.Weave.{woven_after, woven, spent_after, spent, Enough, Woven}
 use Rattle.table.specs.Whole.{Whole, line_of, free_of}
-use Rattle.table.proofs.Segments.{AllHeld, node, node_same, all_join, all_map, length_nodes}
-use Rattle.table.proofs.Places.{Place, before_inside}
-use Rattle.table.proofs.Moves.{place_insert, place_skip}
-use Rattle.table.proofs.Ends.{UpTo, place_start, start_held, start_total, place_end}
-use Rattle.table.proofs.Zeroth.{kept_refl, kept_then, kept_insert}
-
--- points on their way into the line before `here`: a is the line so far, ps is still to come, f is free
-pub record Splice (t0 : List Record) (a0 f0 : List Node) (ps0 : List Point) (e here : ℕ) (b : List Node)
-    (t : List Record) (h : Head) (before : ℕ) (ps : List Point) (a f : List Node) : Type 0 where
-  pub place : Place t h.first h.free before here a b f
-  pub kept : Frame t0 t
-  pub count_is : h.count ≡ length a + length b
-  pub total : length a + length b + length f + 1 ≡ length t
-  pub room : length ps ≤ length f
-  pub line : a ++ new_nodes e f ps ≡ a0 ++ new_nodes e f0 ps0
-  pub rest : drop (length ps) f ≡ drop (length ps0) f0
-  pub top : AllHeld (UpTo e) a
-
-abbrev pub Splicing : List Record → List Node → List Node → List Point → ℕ → ℕ → List Node → List Record → Head
-    → ℕ → List Point → Type 0
-Splicing t0 a0 f0 ps0 e here b t h before ps =
-    (a : List Node) × (f : List Node) × Splice t0 a0 f0 ps0 e here b t h before ps a f
-
-module _ (t0 : List Record) (a0 f0 : List Node) (ps0 : List Point) (e here : ℕ) (b : List Node)
-    (t : List Record) (h : Head) (before : ℕ) (p : Point) (ps : List Point) where
-  splice_step : (a f : List Node) → Splice t0 a0 f0 ps0 e here b t h before (p ∷ ps) a f → e ≤ last_edit
-      → Splicing t0 a0 f0 ps0 e here b (inserted_table t h before here p e) (inserted_head t h before)
-      h.free ps
-  splice_step a [] u l = absurd (omega (arith, u.room))
-  splice_step a (c ∷ f) u l =
-      let r = filled p here e in
-      let same : node h.free (held_in r) ≡ node c.index (held_in r) =
-      node_same u.place.spare.0 refl in
-      let kept = kept_insert t before h.free r u.place.spare.1 in (
-        a ++ node h.free (held_in r) ∷ [],
-        f,
-        record {
-          place = place_insert t h.first h.free before here a b f c u.place r refl l;
-          kept = kept_then t0 t (inserted_table t h before here p e) u.kept kept;
-          count_is = simp length-append (omega (arith, u.count_is));
-          total = rw kept.size (simp length-append (omega (arith, u.total)));
-          room = omega (arith, u.room);
-          line = append_assoc a (node h.free (held_in r) ∷ []) (new_nodes e f ps)
-              ∙ (ap (λ v. a ++ v ∷ new_nodes e f ps) same ∙ u.line);
-          rest = u.rest;
-          top = all_join (UpTo e) a (node h.free (held_in r) ∷ []) u.top (omega arith, tt);
-        },
-      )
-
-  splice_room : (a f : List Node) → Splice t0 a0 f0 ps0 e here b t h before (p ∷ ps) a f
-      → (h.free < length t) × (h.count + 1 < length t)
-  splice_room a [] u = absurd (omega (arith, u.room))
-  splice_room a (c ∷ f) u = (u.place.spare.2, omega (arith, u.count_is, u.total))
+use Rattle.table.proofs.Segments.{AllHeld, all_join, all_map, length_nodes}
+use Rattle.table.proofs.Places.{before_inside}
+use Rattle.table.proofs.Ends.{UpTo, start_held, start_total}
+use Rattle.table.proofs.Splicing.{Splice, Splicing, splice_step, splice_room}
+use Rattle.table.proofs.Walks.{Walk, walk_start, walk_skip, walk_end}
 
 module _ (between : Point → Point → List Point) where
   -- p is the last point before the place, and `left` pairs are left
   pub record Weave (t0 : List Record) (h0 : Head) (e : ℕ) (t : List Record) (h : Head) (before here left : ℕ)
       (p : Point) (a b f : List Node) : Type 0 where
-    pub place : Place t h.first h.free before here a b f
-    pub kept : Frame t0 t
+    pub walk : Walk t0 t h before here a b f
     pub left_is : length b ≡ left
-    pub count_is : h.count ≡ length a + length b
-    pub total : length a + length b + length f + 1 ≡ length t
     pub room : spent_after between p b ≤ length f
     pub line : a ++ woven_after between e p b f ≡ woven between e (line_of t0 h0) (free_of t0 h0)
     pub rest : drop (spent_after between p b) f ≡ drop (spent between (line_of t0 h0)) (free_of t0 h0)
@@ -86,10 +34,7 @@ module _ (between : Point → Point → List Point) where
         → Weave t0 h0 e t h before here left p a (d ∷ b) f
         → Splice t0 a f (between p d.held.point) e here (d ∷ b) t h before (between p d.held.point) a f
     weave_splice t h before here u = record {
-      place = u.place;
-      kept = u.kept;
-      count_is = u.count_is;
-      total = u.total;
+      walk = u.walk;
       room = omega (arith, u.room);
       line = refl;
       rest = refl;
@@ -108,11 +53,8 @@ module _ (between : Point → Point → List Point) where
         let fr : f' ≡ drop (length ps) f = s.rest in
         let new : a' ≡ a ++ new_nodes e f ps = sym (append-nil a') ∙ s.line in
         record {
-          place = place_skip t h.first h.free before here a' b f' d s.place;
-          kept = s.kept;
+          walk = walk_skip t0 t h before here a' b f' d s.walk;
           left_is = omega (arith, u.left_is);
-          count_is = simp length-append (omega (arith, s.count_is));
-          total = simp length-append (omega (arith, s.total));
           room = rw (fr, length-drop (length ps) f) (omega (arith, u.room));
           line =
               append_assoc a' (d ∷ []) (woven_after between e q b f')
@@ -137,24 +79,20 @@ module _ (between : Point → Point → List Point) where
 
   module _ (t : List Record) (h : Head) (e left : ℕ) where
     first_step : (ls fs : List Node) → line_of t h ≡ ls → free_of t h ≡ fs
-        → Place t h.first h.free 0 h.first [] ls fs → AllHeld (UpTo h.newest) ls
-        → h.count ≡ length ls → length ls + length fs + 1 ≡ length t → spent between ls ≤ length fs
+        → Walk t t h 0 h.first [] ls fs → AllHeld (UpTo h.newest) ls → spent between ls ≤ length fs
         → 0 < h.count → h.newest ≤ e → left ≡ h.count - 1 → Started t h e left
-    first_step [] fs il if m w n total room z le q = absurd (omega arith)
-    first_step (c ∷ cs) fs il if m w n total room z le q =
-        let pt : point_in (at t h.first) ≡ c.held.point = ap (λ g. g.point) m.back.3 in
+    first_step [] fs il if m w room z le q = absurd (omega (arith, m.count_is))
+    first_step (c ∷ cs) fs il if m w room z le q =
+        let pt : point_in (at t h.first) ≡ c.held.point = ap (λ g. g.point) m.place.back.3 in
         let low = all_map (UpTo h.newest) (UpTo e) (λ g x. omega arith) (c ∷ cs) w in (
-          m.back.2,
+          m.place.back.2,
           rw pt (
             c ∷ [],
             cs,
             fs,
             record {
-              place = place_skip t h.first h.free 0 h.first [] cs fs c m;
-              kept = kept_refl t;
-              left_is = omega arith;
-              count_is = omega arith;
-              total = omega arith;
+              walk = walk_skip t t h 0 h.first [] cs fs c m;
+              left_is = omega (arith, m.count_is);
               room = room;
               line = ap (λ v. woven between e (c ∷ cs) v) (sym if)
                   ∙ ap (λ v. woven between e v (free_of t h)) (sym il);
@@ -169,9 +107,9 @@ module _ (between : Point → Point → List Point) where
     pub weave_start : Whole t h → 0 < h.count → Enough between t h → h.newest ≤ e → left ≡ h.count - 1
         → Started t h e left
     weave_start w z r le q =
-        let n = length_nodes t h.count h.first in
         let all = start_total t h w in
-        first_step (line_of t h) (free_of t h) refl refl (place_start t h w) (start_held t h w) (sym n) all
+        let n = length_nodes t h.count h.first in
+        first_step (line_of t h) (free_of t h) refl refl (walk_start t h w) (start_held t h w)
         (omega (arith, w.fits)) z le q
 
   -- the points ps of the pair p and q are still to come
@@ -189,8 +127,8 @@ module _ (between : Point → Point → List Point) where
         × Pair t0 h0 e left p (point_in (at t here)) here t h before (between p (point_in (at t here)))
     open_pair a [] f u z = absurd (omega (arith, u.left_is))
     open_pair a (d ∷ b) f u z =
-        let pt : point_in (at t here) ≡ d.held.point = ap (λ g. g.point) u.place.back.3 in (
-          u.place.back.2,
+        let pt : point_in (at t here) ≡ d.held.point = ap (λ g. g.point) u.walk.place.back.3 in (
+          u.walk.place.back.2,
           rw pt (
             a,
             d,
@@ -221,7 +159,7 @@ module _ (between : Point → Point → List Point) where
           let s = spliced [] z in
           let w = weave_more t0 h0 e left p u.1 u.0 u.2 u.3 u.5.0 u.5.1 u.5.2 here
           u.5.3 t h before u.6.0 u.6.1 s in (
-            s.place.back.2,
+            s.walk.place.back.2,
             subst (Weaving t0 h0 e t h here (at t here).next (left - 1)) u.4
                 (u.6.0 ++ u.1 ∷ [], u.2, u.6.1, w),
           )
@@ -247,8 +185,8 @@ module _ (between : Point → Point → List Point) where
             let r = splice_room t0 u.0 u.3 (between p u.1.held.point) e here (u.1 ∷ u.2) t h
             before m ps u.6.0 u.6.1 s in (
               r.0,
-              omega (arith, r.1, s.kept.size),
-              before_inside t h.first h.free before here u.6.0 (u.1 ∷ u.2) u.6.1 s.place
+              omega (arith, r.1, s.walk.kept.size),
+              before_inside t h.first h.free before here u.6.0 (u.1 ∷ u.2) u.6.1 s.walk.place
                   (omega (arith, r.0)),
             )
 
@@ -269,13 +207,10 @@ module _ (between : Point → Point → List Point) where
         → h0.newest < last_edit → Woven between t0 h0 t (newest_head h (h0.newest + 1))
     last_step a (d ∷ b) f u l = absurd (omega (arith, u.left_is))
     last_step a [] f u l =
-        let m : Place t h.first h.free before 0 a [] f =
-        subst (λ v. Place t h.first h.free before v a [] f) u.place.back u.place in
-        let laid = place_end t (newest_head h (h0.newest + 1)) before a f m (omega arith) u.top_a
-        (omega (arith, u.count_is)) (omega (arith, u.total)) in
+        let laid = walk_end t0 t h before here a f u.walk (h0.newest + 1) (omega arith) u.top_a in
         record {
           whole = laid.whole;
-          frame = u.kept;
+          frame = u.walk.kept;
           line = laid.line_is ∙ (sym (append-nil a) ∙ u.line);
           free = laid.free_is ∙ u.rest;
           newest = refl;

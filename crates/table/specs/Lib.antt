@@ -11,3 +11,4 @@ pub mod Settle
 pub mod Weave
 pub mod Densify
 pub mod Facts
+pub mod Cursors

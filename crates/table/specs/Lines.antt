@@ -1,5 +1,5 @@
 -- The line that a table keeps, and the lines that its edits set aside.
-use Rattle.std.specs.Prelude.{ℕ, zero, suc, cond, List, [], ◌∷◌, map, nat_lt}
+use Rattle.std.specs.Prelude.{ℕ, zero, suc, List, [], ◌∷◌, filter, map, nat_lt}
 use Rattle.points.specs.declared.point.Point.{Point}
 use Rattle.table.specs.declared.Record.{Record}
 use Rattle.table.specs.declared.Head.{Head}
@@ -26,8 +26,7 @@ held_line t h = held_by (line_of t h)
 
 -- what was put there before edit e, with a number of at most e − 1
 abbrev pub held_before : ℕ → List Held → List Held
-held_before e [] = []
-held_before e (g ∷ gs) = cond (nat_lt g.edit e) (g ∷ held_before e gs) (held_before e gs)
+held_before e gs = filter (λ g. nat_lt g.edit e) gs
 
 -- the lines set aside by the edits n down to 1: edit i set aside the line without the records numbered
 -- above i − 1

@@ -1,5 +1,5 @@
 -- What an undo leaves, and when it is refused.
-use Rattle.std.specs.Prelude.{◌≡◌, ℕ, ◌-◌, ◌<◌, cond, ◌⊎◌, List, [], ◌∷◌, nat_lt}
+use Rattle.std.specs.Prelude.{◌≡◌, ℕ, ◌-◌, ◌<◌, cond, ◌⊎◌, List, [], ◌∷◌, filter, nat_lt}
 use Rattle.points.specs.Faults.{raised}
 use Rattle.points.specs.declared.fault.Fault.{Fault}
 use Rattle.points.specs.declared.fault.Cause.TheVariants.{NothingToUndo}
@@ -13,8 +13,7 @@ use Rattle.table.specs.Whole.{Checked, Whole, BadTable, line_of, free_of}
 
 -- the records put there before edit e
 abbrev pub nodes_before : ℕ → List Node → List Node
-nodes_before e [] = []
-nodes_before e (n ∷ ns) = cond (nat_lt n.held.edit e) (n ∷ nodes_before e ns) (nodes_before e ns)
+nodes_before e ns = filter (λ n. nat_lt n.held.edit e) ns
 
 -- the other records, zeroed, each in its turn put before the free ones
 abbrev pub freed_since : ℕ → List Node → List Node → List Node

@@ -1,6 +1,8 @@
 -- The points of each pair written between its two records, in records from the front of the free chain.
 -- Nothing is refused here: where the space refuses a point, any point would do.
-use Rattle.std.specs.Prelude.{◌≡◌, ℕ, zero, suc, ◌+◌, ◌-◌, ◌≤◌, cond, List, [], ◌∷◌, ◌++◌, length, drop, Some, None, Ok, Err, Option, Result, nat_lt, Float}
+use Rattle.std.specs.Prelude.{◌≡◌, ℕ, ◌+◌, ◌-◌, ◌≤◌, cond, List, [], ◌∷◌, ◌++◌, length, map, drop, Some, None, Option, Result, nat_lt, Float}
+use Rattle.std.specs.List.{range_with_len}
+use Rattle.std.specs.Result.{result_ok, result_unwrap_or}
 use Rattle.points.specs.declared.fault.Fault.{Fault}
 use Rattle.points.specs.declared.fault.Layer.TheVariants.{Table}
 use Rattle.points.specs.declared.point.Point.{Point}
@@ -15,19 +17,14 @@ use Rattle.table.specs.Whole.{Whole, line_of, free_of, free_count}
 
 -- what a result holds, or d
 abbrev pub or_else : {X : Type 0} → X → Result X Fault → X
-or_else d (Ok x) = x
-or_else d (Err f) = d
+or_else d r = result_unwrap_or r d
 
 abbrev pub origin : Point
 origin = record { x = zero64; y = zero64 }
 
 -- the prepared pair, where there is a point to ask for
-abbrev pub held : {P : Type 0} → Result P Fault → Option P
-held (Ok pair) = Some pair
-held (Err f) = None
-
 abbrev pub pair_for : {P : Type 0} → Result P Fault → ℕ → Option P
-pair_for r n = cond (nat_lt n 2) None (held r)
+pair_for r n = cond (nat_lt n 2) None (result_ok r)
 
 abbrev pub part_of : {P : Type 0} → (P → Float → Result Point Fault) → Option P → Float → Point
 part_of between (Some pair) t = or_else origin (between pair t)
@@ -35,8 +32,7 @@ part_of between None t = origin
 
 -- of n pieces, the c points from point i on
 abbrev pub parts_from : (Float → Result Point Fault) → ℕ → ℕ → ℕ → List Point
-parts_from at n zero i = []
-parts_from at n (suc c) i = or_else origin (at (ratio_of i n)) ∷ parts_from at n c (i + 1)
+parts_from at n c i = map (λ k. or_else origin (at (ratio_of k n))) (range_with_len i c)
 
 module _ (far : Point → Point → Result Float Fault) (most : Float) where
   abbrev pub pieces_in : Point → Point → ℕ

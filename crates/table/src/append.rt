@@ -1,11 +1,7 @@
 // Append: new points at the end of the line.
 ghost use Rattle.std.specs.Prelude.{◌≡◌, Ok, Err};
 ghost use Rattle.points.specs.Finite.{first_unfit};
-ghost use Rattle.table.specs.Append.{NotFiniteAt, last_index};
-ghost use Rattle.table.specs.Chains.{at as record_at};
-ghost use Rattle.table.specs.Append.{HasRoom, Appended, AppendOk, AppendErr};
-ghost use Rattle.table.specs.Outcomes.{NextEdit};
-ghost use Rattle.table.specs.Whole.{Checked, line_of, free_count};
+ghost use Rattle.table.specs.Append.{NotFiniteAt, AppendOk, AppendErr};
 
 use crate::cursor::Cursor;
 use crate::kept::KeptLine;

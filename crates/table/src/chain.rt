@@ -6,7 +6,7 @@ ghost use Rattle.table.specs.Chains.{index_at};
 
 use crate::Record;
 
-// `here` is the index after `at` steps from the first.
+// `here` is the index after `at` steps from the first: a line source is stepped, and tells where it stands.
 #[derive(Clone, Copy)]
 pub struct Chain<'a> {
     table: &'a [Record],

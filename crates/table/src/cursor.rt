@@ -10,7 +10,9 @@ ghost use Rattle.table.specs.Whole.{Checked, line_of};
 use crate::{Head, Record};
 use points::point::Point;
 
-// The place lies between the record `before` and the record `here`, where 0 stands for none.
+// The place lies between the record `before` and the record `here`, where 0 stands for none, as in a link. An edit writes
+// where it walks, so that no iterator can lend it the records. A link may be any number, so that each move asks for
+// records in the table, and no cursor can keep that fact.
 #[derive(Drop)]
 pub(crate) struct Cursor<'a> {
     table: &'a mut [Record],
@@ -27,6 +29,8 @@ fn next_index(table: &[Record], here: u16) -> u16
 }
 
 impl<'a> Cursor<'a> {
+    ghost use Rattle.table.specs.Cursors.{HoldsSame};
+
     // In front of the first record.
     pub(crate) fn start(table: &'a mut [Record], head: &'a mut Head) -> Cursor<'a>
         ensures same_table { result.table.ghost_name ≡ table.entry.ghost_name }
@@ -51,7 +55,8 @@ impl<'a> Cursor<'a> {
         ensures same_head { result.head.ghost_name ≡ head.entry.ghost_name }
         ensures table { result.table.now ≡ table.old }
         ensures head { result.head.now ≡ head.old }
-        ensures before { Checked table.old head.old → result.before ≡ last_index 0 (line_of table.old head.old) }
+        ensures before { Checked table.old head.old
+            → result.before ≡ last_index 0 (line_of table.old head.old) }
         ensures here { result.here ≡ 0 }
     {
         let links = &*table;
@@ -74,8 +79,7 @@ impl<'a> Cursor<'a> {
     // On behind the record here.
     pub(crate) fn step(&mut self)
         requires { self.old.here < length self.old.table.now }
-        ensures same_table { self.new.table.ghost_name ≡ self.old.table.ghost_name }
-        ensures same_head { self.new.head.ghost_name ≡ self.old.head.ghost_name }
+        ensures same { HoldsSame self.old self.new }
         ensures table { self.new.table.now ≡ self.old.table.now }
         ensures head { self.new.head.now ≡ self.old.head.now }
         ensures before { self.new.before ≡ self.old.here }
@@ -89,8 +93,7 @@ impl<'a> Cursor<'a> {
     // Gives the record here another edit number, and goes on behind it.
     pub(crate) fn renumber(&mut self, edit: u8)
         requires { self.old.here < length self.old.table.now }
-        ensures same_table { self.new.table.ghost_name ≡ self.old.table.ghost_name }
-        ensures same_head { self.new.head.ghost_name ≡ self.old.head.ghost_name }
+        ensures same { HoldsSame self.old self.new }
         ensures table { self.new.table.now ≡ slice_set self.old.table.now self.old.here
             (numbered (record_at self.old.table.now self.old.here) edit) }
         ensures head { self.new.head.now ≡ self.old.head.now }
@@ -104,8 +107,7 @@ impl<'a> Cursor<'a> {
     // Sets the link at the place: the one in the record before, or the head's.
     fn link(&mut self, to: u16)
         requires { self.old.before < length self.old.table.now }
-        ensures same_table { self.new.table.ghost_name ≡ self.old.table.ghost_name }
-        ensures same_head { self.new.head.ghost_name ≡ self.old.head.ghost_name }
+        ensures same { HoldsSame self.old self.new }
         ensures table { self.new.table.now ≡ link_table self.old.table.now self.old.before to }
         ensures head { self.new.head.now ≡ link_head self.old.head.now self.old.before to }
         ensures before { self.new.before ≡ self.old.before }
@@ -123,8 +125,7 @@ impl<'a> Cursor<'a> {
         requires before { self.old.before < length self.old.table.now }
         requires here { self.old.here < length self.old.table.now }
         requires some { 0 < self.old.head.now.count }
-        ensures same_table { self.new.table.ghost_name ≡ self.old.table.ghost_name }
-        ensures same_head { self.new.head.ghost_name ≡ self.old.head.ghost_name }
+        ensures same { HoldsSame self.old self.new }
         ensures table { self.new.table.now
             ≡ released_table self.old.table.now self.old.head.now self.old.before self.old.here }
         ensures head { self.new.head.now
@@ -145,8 +146,7 @@ impl<'a> Cursor<'a> {
         requires before { self.old.before < length self.old.table.now }
         requires free { self.old.head.now.free < length self.old.table.now }
         requires room { self.old.head.now.count + 1 < most_records }
-        ensures same_table { self.new.table.ghost_name ≡ self.old.table.ghost_name }
-        ensures same_head { self.new.head.ghost_name ≡ self.old.head.ghost_name }
+        ensures same { HoldsSame self.old self.new }
         ensures table { self.new.table.now ≡ inserted_table self.old.table.now self.old.head.now
             self.old.before self.old.here point edit }
         ensures head { self.new.head.now

@@ -8,37 +8,31 @@ ghost use Rattle.table.specs.Lines.{kept_line};
 ghost use Rattle.table.specs.Whole.{free_count};
 
 use crate::kept::KeptLine;
-use crate::weave::weave;
+use crate::weave::{Cut, weave};
 use crate::{Head, Record};
-use measures::pairs::Densify;
 use measures::pieces::check_maximum;
 use points::fault::{Fault, Layer, in_layer};
 use spaces::space::Space;
 
 impl KeptLine<'_, '_> {
     // Measures the pairs, counts the free records and asks for the points.
-    fn ask_points<S: Space>(&self, space: &S, maximum: f64) -> Result<(), Fault>
-        ensures { result ≡ told (densified (S.far space.now) (S.ratio space.now) Table maximum
+    fn ask_points<S: Space>(&self, cut: &Cut<S>) -> Result<(), Fault>
+        ensures { result ≡ told (densified (S.far cut.now.space.now) (S.ratio cut.now.space.now) Table cut.now.maximum
             (free_count self.now.table.now self.now.head.now)
             (kept_line self.now.table.now self.now.head.now)) }
     {
         let room = self.free_count() as u64;
-        let densify = Densify {
-            space,
-            maximum,
-            layer: Layer::Table,
-        };
-        densify.ask_line(&mut self.points(), room)
+        cut.densify().ask_line(&mut self.points(), room)
     }
 
     // What a densify refuses.
-    fn ask<S: Space>(&self, space: &S, maximum: f64) -> Result<(), Fault>
-        ensures { result ≡ told (outcome (S.far space.now) (S.ratio space.now) maximum
+    fn ask<S: Space>(&self, cut: &Cut<S>) -> Result<(), Fault>
+        ensures { result ≡ told (outcome (S.far cut.now.space.now) (S.ratio cut.now.space.now) cut.now.maximum
             self.now.table.now self.now.head.now) }
     {
-        in_layer(check_maximum(maximum), Layer::Table)?;
+        in_layer(check_maximum(cut.maximum), Layer::Table)?;
         self.head.next_edit()?;
-        self.ask_points(space, maximum)
+        self.ask_points(cut)
     }
 }
 
@@ -58,7 +52,8 @@ pub fn densify<S: Space>(
           table.old head.old f table.new head.new
     ] }
 {
-    KeptLine::new(table, head)?.ask(space, maximum)?;
-    weave(table, head, space, maximum);
+    let cut = Cut { space, maximum };
+    KeptLine::new(table, head)?.ask(&cut)?;
+    weave(table, head, &cut);
     Ok(())
 }

@@ -1,6 +1,5 @@
 // A new table: all records free.
 ghost use Rattle.std.specs.Prelude.{◌≡◌, ◌<◌, ◌≤◌, Ok, Err};
-ghost use Rattle.table.specs.Chains.{at as record_at};
 ghost use Rattle.table.specs.Format.{follower, InOrder, FormatOk, FormatErr};
 ghost use Rattle.table.specs.Numbers.{most_records};
 ghost use Rattle.table.specs.Whole.{Sized};
@@ -18,15 +17,14 @@ fn next_in_order(index: usize, n: usize) -> u16
     if index + 1 < n { (index + 1) as u16 } else { 0 }
 }
 
-// Chains the records from 1 on as free.
+// Chains the records as free, each on to the next.
 fn chain_free(table: &mut [Record])
     requires { Sized table.old }
-    ensures zeroth { record_at table.new 0 ≡ record_at table.old 0 }
-    ensures each { InOrder table.new }
+    ensures { InOrder table.new }
 {
     let n = table.len();
-    for i in 1..n {
-        table[i] = Record::free(next_in_order(i, n));
+    for (index, record) in table.iter_mut().enumerate() {
+        *record = Record::free(next_in_order(index, n));
     }
 }
 
@@ -37,8 +35,9 @@ pub fn format(table: &mut [Record]) -> Result<Head, Fault>
     ] }
 {
     check_length(table)?;
-    table[0] = Record::default();
     chain_free(table);
+    table[0] = Record::default();
+    // No `Default` makes a head: there is one to a table, and it comes from here.
     Ok(Head {
         first: 0,
         free: 1,

@@ -11,7 +11,7 @@ use points::fault::Fault;
 // Only a table that is whole for the head makes one.
 #[derive(Clone, Copy)]
 pub(crate) struct KeptLine<'t, 'h> {
-    pub(crate) table: &'t [Record],
+    table: &'t [Record],
     pub(crate) head: &'h Head,
     ghost checked: { Checked table.now head.now } by { Prim.hlevel (props, Chained-prop) },
 }
@@ -40,8 +40,10 @@ impl<'t, 'h> KeptLine<'t, 'h> {
     }
 
     // Its points, at the first.
+    #[tactic(auto, using(crate::proofs::Positions::index_inside))]
     pub(crate) fn points(&self) -> Chain<'t>
-        ensures kept { line_from result.table.now result.count result.first ≡ kept_line self.now.table.now self.now.head.now }
+        ensures kept { line_from result.table.now result.count result.first
+            ≡ kept_line self.now.table.now self.now.head.now }
         ensures first { result.at ≡ 0 }
     {
         Chain::begin(self.table, self.head.first, self.head.count)

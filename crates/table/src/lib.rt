@@ -21,7 +21,7 @@ ghost use Rattle.table.specs.Outcomes.{NextEdit, NoEditLeft};
 use points::fault::{Cause, Fault, Layer};
 use points::point::Point;
 
-// The edit number of a free record.
+// The edit number of a free record. The record's format has it, so that no enum stands in its place.
 const FREE: u8 = 255;
 
 // The last number that an edit can have.
@@ -31,6 +31,7 @@ const LAST_EDIT: u8 = 254;
 const MOST_RECORDS: usize = 65_536;
 
 // A point, the index of the next record of its chain, where 0 ends the chain, and the number of its edit.
+// A table is the caller's memory, so that records are chained by their index there, and nothing is on a heap.
 #[derive(Clone, Copy, Debug, Default, PartialEq)]
 pub struct Record {
     pub x: f64,

@@ -26,7 +26,7 @@ same_capital d e h =
     (capital d)
 
 -- how many numbers k capitals spell
-abbrev room : ℕ → ℕ
+abbrev pub room : ℕ → ℕ
 room zero = 1
 room (suc k) = 16 * room k
 

@@ -1,7 +1,8 @@
 pub mod HexLaws
 pub mod Runs
-pub mod Parts
 pub mod Numbers
 pub mod Commands
+pub mod Choice
 pub mod Digits
+pub mod Padded
 pub mod Unique

@@ -1,7 +1,7 @@
--- A run up to the first byte that stops it: what `find` measures gives the first line and the first word.
-use Rattle.std.proofs.Common.{◌≡◌, ℕ, zero, suc, ◌+◌, ◌-◌, ◌<◌, ◌≤◌, List, [], ◌∷◌, length, get_or, take, drop, sym, refl, ap, ◌∙◌, subst, arith, eq-eqb, ne_eqb}
-use Rattle.std.proofs.lemmas.List.{length-drop, drop-drop, take_rest}
-use Rattle.text.specs.Lines.{lines, front, onto, part, LineAt}
+-- A run up to the first byte that stops it: what `count_before` measures gives the first line and the first word.
+use Rattle.std.proofs.Common.{◌≡◌, ℕ, zero, suc, ◌+◌, ◌-◌, ◌<◌, ◌≤◌, List, [], ◌∷◌, length, get_or, take, drop, sym, refl, ap, ◌∙◌, arith, eq-eqb, ne_eqb}
+use Rattle.std.proofs.lemmas.List.{length-drop, drop-drop}
+use Rattle.text.specs.Lines.{Inside, lines, front, onto, part}
 
 -- the first k bytes of l hold no c, and the next one, if any, is c
 pub record Run (c : ℕ) (l : List ℕ) (k : ℕ) : Type 0 where
@@ -41,20 +41,16 @@ no_lines [] e = refl
 no_lines (b ∷ bs) e = absurd (omega arith)
 
 -- a run of the rest of the bytes is a line
-pub line_run : (bytes : List ℕ) (at k : ℕ) → at < length bytes →
-    Run 10 (part bytes at (length bytes)) k → LineAt bytes at (at + k)
-line_run bytes at k some h =
-    let rest = take_rest bytes at in
-    let run : Run 10 (drop at bytes) k = subst (λ l. Run 10 l k) rest h in
+pub line_run : (bytes : List ℕ) (at k : ℕ) → at < length bytes → Run 10 (drop at bytes) k →
+    Inside bytes at (at + k) × (lines (drop at bytes) ≡ part bytes at (at + k) ∷ lines (drop (at + k + 1) bytes))
+line_run bytes at k some run =
     let long = length-drop at bytes in
     let same : at + k - at ≡ k = omega arith in
     let next : at + suc k ≡ at + k + 1 = omega arith in
-    let fits = run.within in
-    record {
-      inside = record { ordered = omega arith; within = omega arith };
-      first =
-          lines_run (drop at bytes) k (omega arith) run
+    let fits = run.within in (
+      record { ordered = omega arith; within = omega arith },
+      lines_run (drop at bytes) k (omega arith) run
           ∙ ap (λ n. take n (drop at bytes) ∷ lines (drop (suc k) (drop at bytes))) (sym same)
           ∙ ap (λ l. part bytes at (at + k) ∷ lines l)
-          (drop-drop (suc k) at bytes ∙ ap (λ n. drop n bytes) next);
-    }
+          (drop-drop (suc k) at bytes ∙ ap (λ n. drop n bytes) next),
+    )

@@ -1,7 +1,7 @@
 -- Defines the words of a line, and the commands with the line that spells each.
-use Rattle.std.specs.Prelude.{◌≡◌, ℕ, ◌+◌, ◌^◌, ◌<◌, List, [], ◌∷◌, ◌++◌, length, codes, ◌≢◌}
+use Rattle.std.specs.Prelude.{◌≡◌, ℕ, ◌^◌, ◌<◌, List, [], ◌∷◌, ◌++◌, length, codes, ◌≢◌}
 use Rattle.text.specs.Hex.{hex_text}
-use Rattle.text.specs.Lines.{Inside, part, front}
+use Rattle.text.specs.Lines.{front}
 use Rattle.text.specs.declared.words.Word.{Word}
 use Rattle.text.specs.declared.words.Word.TheVariants.{Letter, Number}
 use Rattle.text.specs.declared.command.Command.{Command}
@@ -22,38 +22,37 @@ abbrev pub WordSized : Word → Type 0
 WordSized (Letter bytes place) = length bytes.now ≡ 1
 WordSized (Number bytes place) = length bytes.now ≡ 16
 
--- w is the word at `from` in a line that ends at `to`
-pub record WordAt (bytes : List ℕ) (from to : ℕ) (w : Word) : Type 0 where
-  pub inside : Inside bytes from to
-  pub whole : word_bytes w ≡ front (part bytes from to)
-  pub sized : WordSized w
-  pub placed : word_place w ≡ from
-
--- what stands at `from` in a line that ends at `to` is neither a letter nor a number
-pub record NoWord (bytes : List ℕ) (from to : ℕ) : Type 0 where
-  pub no_letter : length (front (part bytes from to)) ≡ 1 → ⊥
-  pub no_number : length (front (part bytes from to)) ≡ 16 → ⊥
-
--- a space, and the 16 capitals of n
-abbrev pub spaced : ℕ → List ℕ
-spaced n = codes " " ++ hex_text 16 n
-
 -- nothing, or what begins with a space (byte 32)
 abbrev pub Parted : List ℕ → Type 0
 Parted [] = Unit {0}
 Parted (b ∷ bs) = b ≡ 32
 
--- a space and the number n stand at `from` in a line that ends at `to`; a space or nothing follows
-pub record NumberAt (bytes : List ℕ) (from to n : ℕ) : Type 0 where
-  pub inside : Inside bytes from to
-  pub sized : n < 2 ^ 64
-  pub whole : part bytes from to ≡ spaced n ++ part bytes (from + 17) to
-  pub parted : Parted (part bytes (from + 17) to)
+-- the line begins with the word w, which stands at `place`, and `rest` is left after it
+pub record WordFirst (line : List ℕ) (place : ℕ) (w : Word) (rest : List ℕ) : Type 0 where
+  pub first : word_bytes w ≡ front line
+  pub sized : WordSized w
+  pub placed : word_place w ≡ place
+  pub whole : line ≡ word_bytes w ++ rest
+  pub parted : Parted rest
 
--- no number of 64 bits stands so at `from`
-abbrev pub NoNumber : List ℕ → ℕ → ℕ → Type 0
-NoNumber bytes from to =
-    (n : ℕ) → n < 2 ^ 64 → (rest : List ℕ) → Parted rest → part bytes from to ≢ spaced n ++ rest
+-- what the line begins with is neither a letter nor a number
+pub record NoWord (line : List ℕ) : Type 0 where
+  pub no_letter : length (front line) ≢ 1
+  pub no_number : length (front line) ≢ 16
+
+-- a space, and the 16 capitals of n
+abbrev pub spaced : ℕ → List ℕ
+spaced n = codes " " ++ hex_text 16 n
+
+-- the line begins with a space and the number n, and `rest` is left after them: nothing, or what begins with a space
+pub record NumberFirst (line : List ℕ) (n : ℕ) (rest : List ℕ) : Type 0 where
+  pub sized : n < 2 ^ 64
+  pub whole : line ≡ spaced n ++ rest
+  pub parted : Parted rest
+
+-- the line begins with no number of 64 bits
+abbrev pub NoNumber : List ℕ → Type 0
+NoNumber line = (n : ℕ) → n < 2 ^ 64 → (rest : List ℕ) → Parted rest → line ≢ spaced n ++ rest
 
 -- the numbers of a command have 64 bits
 abbrev pub Sized : Command → Type 0
@@ -71,8 +70,7 @@ spelled Compare = codes "C"
 abbrev pub Unspelled : List ℕ → Type 0
 Unspelled line = (q : Command) → Sized q → spelled q ≢ line
 
--- q is the command that the line from `from` up to `to` spells
-pub record CommandAt (bytes : List ℕ) (from to : ℕ) (q : Command) : Type 0 where
-  pub inside : Inside bytes from to
+-- q is the command that the line spells
+pub record CommandOf (line : List ℕ) (q : Command) : Type 0 where
   pub sized : Sized q
-  pub whole : spelled q ≡ part bytes from to
+  pub whole : spelled q ≡ line

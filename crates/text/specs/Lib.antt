@@ -2,3 +2,4 @@ pub mod Hex
 pub mod Lines
 pub mod Grammar
 pub mod Printed
+pub mod Steps

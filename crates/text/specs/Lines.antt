@@ -1,5 +1,5 @@
 -- Defines the parts and the lines of a list of bytes, and the word that a line begins with.
-use Rattle.std.specs.Prelude.{◌≡◌, ℕ, ◌+◌, ◌-◌, ◌≤◌, cond, List, [], ◌∷◌, length, take, drop, ◌==◌}
+use Rattle.std.specs.Prelude.{ℕ, ◌-◌, ◌≤◌, cond, List, [], ◌∷◌, length, take, drop, ◌==◌}
 
 -- `from` and `to` bound a part of the bytes
 pub record Inside (bytes : List ℕ) (from to : ℕ) : Type 0 where
@@ -24,8 +24,3 @@ lines (b ∷ bs) = cond (b == 10) ([] ∷ lines bs) (onto b (lines bs))
 unfoldable pub front : List ℕ → List ℕ
 front [] = []
 front (b ∷ bs) = cond (b == 32) [] (b ∷ front bs)
-
--- the first of the lines from `from` on ends at `to`, and the next one begins one byte further on
-pub record LineAt (bytes : List ℕ) (from to : ℕ) : Type 0 where
-  pub inside : Inside bytes from to
-  pub first : lines (drop from bytes) ≡ part bytes from to ∷ lines (drop (to + 1) bytes)

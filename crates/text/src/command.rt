@@ -1,82 +1,53 @@
 // The commands of a job, one to a line: `R x y`, `A x y` and `C`.
-ghost use Rattle.std.specs.Prelude.{◌≡◌, ℕ, ◌^◌, ◌<◌, List, [], ◌∷◌, ◌++◌, MatchOption};
-ghost use Rattle.text.specs.Lines.{Inside, part};
-ghost use Rattle.text.specs.Grammar.{Sized, spelled, spaced, Unspelled, CommandAt};
+ghost use Rattle.std.specs.Prelude.{◌≡◌, ℕ, ◌^◌, ◌<◌, ◌∷◌, ◌++◌, MatchOption, ◌≢◌};
+ghost use Rattle.text.specs.Grammar.{spaced, Unspelled, CommandOf};
 
-use crate::words::{Word, number_at, read_word};
+use crate::line::Line;
+use crate::words::Word;
 
 // What a line asks for; its numbers are words of 64 bits.
-#[derive(Clone, Copy)]
+#[derive(Clone, Copy, Debug, PartialEq, Eq)]
 pub enum Command {
     Reference(u64, u64),
     Append(u64, u64),
     Compare,
 }
 
-// The command that the line from `start` up to `end` spells.
-pub fn read_command(job: &[u8], start: usize, end: usize) -> Option<Command>
-    ensures { MatchOption result
-        (Inside job.now start end → Unspelled (part job.now start end))
-        (λ q. CommandAt job.now start end q) }
+// The command that a line spells.
+pub fn read_command(line: Line) -> Option<Command>
+    ensures { MatchOption result (Unspelled line.entry.bytes.now) (CommandOf line.entry.bytes.now) }
 {
-    match read_word(job, start, end)? {
-        Word::Letter(name, _) => dispatch(name[0] as char, job, start + 1, end),
-        Word::Number(_, _) => None,
+    match line.split_word()? {
+        (Word::Letter(name, _), rest) => dispatch(name[0] as char, rest),
+        (Word::Number(..), _) => None,
     }
 }
 
-// The command with this letter, whose numbers stand from `at` up to `end`.
-fn dispatch(letter: char, job: &[u8], at: usize, end: usize) -> Option<Command>
-    ensures { MatchOption result
-        (Inside job.now at end → Unspelled (letter ∷ part job.now at end))
-        (λ q. Sized q × (spelled q ≡ letter ∷ part job.now at end)) }
+// The command with this letter, whose numbers are the rest of the line.
+fn dispatch(letter: char, rest: Line) -> Option<Command>
+    ensures { let line = letter ∷ rest.entry.bytes.now in MatchOption result (Unspelled line) (CommandOf line) }
 {
     match letter {
         'R' => {
-            let (x, y) = two_numbers(job, at, end)?;
+            let (x, y) = two_numbers(rest)?;
             Some(Command::Reference(x, y))
         }
         'A' => {
-            let (x, y) = two_numbers(job, at, end)?;
+            let (x, y) = two_numbers(rest)?;
             Some(Command::Append(x, y))
         }
-        'C' => {
-            no_numbers(at, end)?;
-            Some(Command::Compare)
-        }
+        'C' => rest.is_empty().then_some(Command::Compare),
         _ => None,
     }
 }
 
-// `Some` where nothing is left of a line.
-fn no_numbers(at: usize, end: usize) -> Option<()>
-    ensures { MatchOption result ((bytes : List ℕ) → Inside bytes at end → part bytes at end ≡ [] → ⊥)
-        (λ _. (bytes : List ℕ) → part bytes at end ≡ []) }
-{
-    if at == end { Some(()) } else { None }
-}
-
-// The number that is all that is left of a line.
-fn last_number(job: &[u8], at: usize, end: usize) -> Option<u64>
-    ensures { MatchOption result
-        (Inside job.now at end → (n : ℕ) → n < 2 ^ 64 →
-        part job.now at end ≡ spaced n → ⊥)
-        (λ n. (n < 2 ^ 64) × (part job.now at end ≡ spaced n)) }
-{
-    let n = number_at(job, at, end)?;
-    no_numbers(at + 17, end)?;
-    Some(n)
-}
-
 // The two numbers that are all that is left of a line.
-fn two_numbers(job: &[u8], at: usize, end: usize) -> Option<(u64, u64)>
+fn two_numbers(rest: Line) -> Option<(u64, u64)>
     ensures { MatchOption result
-        (Inside job.now at end → (x y : ℕ) → x < 2 ^ 64 → y < 2 ^ 64 →
-        part job.now at end ≡ spaced x ++ spaced y → ⊥)
-        (λ p. (p.0 < 2 ^ 64) × (p.1 < 2 ^ 64)
-        × (part job.now at end ≡ spaced p.0 ++ spaced p.1)) }
+        ((x y : ℕ) → x < 2 ^ 64 → y < 2 ^ 64 → rest.entry.bytes.now ≢ spaced x ++ spaced y)
+        (λ p. (p.0 < 2 ^ 64) × (p.1 < 2 ^ 64) × (rest.entry.bytes.now ≡ spaced p.0 ++ spaced p.1)) }
 {
-    let x = number_at(job, at, end)?;
-    let y = last_number(job, at + 17, end)?;
-    Some((x, y))
+    let (x, rest) = rest.split_number()?;
+    let (y, rest) = rest.split_number()?;
+    rest.is_empty().then_some((x, y))
 }

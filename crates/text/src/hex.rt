@@ -1,6 +1,8 @@
 // Numbers of 64 bits as 16 hexadecimal capitals.
-ghost use Rattle.std.specs.Prelude.{◌≡◌, ℕ, ◌^◌, ◌<◌, MatchOption, ◌≢◌};
+ghost use Rattle.std.specs.Prelude.{◌≡◌, ℕ, ◌^◌, ◌<◌, Some, MatchOption, ◌≢◌};
 ghost use Rattle.text.specs.Hex.{hex_char, hex_text};
+
+use std::fmt;
 
 // The number that 16 hexadecimal capitals spell.
 pub fn parse_bits(s: &[u8]) -> Option<u64>
@@ -12,15 +14,12 @@ pub fn parse_bits(s: &[u8]) -> Option<u64>
     }
     let mut n: u64 = 0;
     for b in s {
-        let Some(d) = hex_digit(*b) else {
-            return None;
-        };
-        n = n * 16 + u64::from(d);
+        n = n * 16 + u64::from(hex_digit(*b)?);
     }
     Some(n)
 }
 
-// The value of a hexadecimal capital.
+// The value of a hexadecimal capital; `char::to_digit` would take small letters too.
 fn hex_digit(b: u8) -> Option<u8>
     ensures { MatchOption result ((d : ℕ) → d < 16 → hex_char d ≢ b) (λ d. (d < 16) × (hex_char d ≡ b)) }
 {
@@ -31,24 +30,15 @@ fn hex_digit(b: u8) -> Option<u8>
     }
 }
 
-// The 16 hexadecimal capitals of a number.
-pub fn bits_text(n: u64) -> [u8; 16]
-    ensures { result ≡ hex_text 16 n }
-{
-    let mut text = [0u8; 16];
-    let mut rest = n;
-    // The last digit is the first to be had.
-    for i in (0..16usize).rev() {
-        text[i] = hex_capital((rest % 16) as u8);
-        rest /= 16;
-    }
-    text
-}
+// A number that prints as its 16 hexadecimal capitals.
+#[derive(Clone, Copy, Debug, PartialEq, Eq)]
+pub struct Bits(pub u64);
 
-// The capital of a digit.
-fn hex_capital(d: u8) -> u8
-    requires { d < 16 }
-    ensures { result ≡ hex_char d }
-{
-    if d < 10 { b'0' + d } else { b'A' + (d - 10) }
+impl fmt::Display for Bits {
+    ghost output = { λ bits. Some (hex_text 16 bits.0) };
+
+    fn fmt<W: fmt::Write>(&self, f: &mut fmt::Formatter<W>) -> fmt::Result {
+        let bits = self.0;
+        write!(f, "{bits:016X}")
+    }
 }

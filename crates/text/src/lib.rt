@@ -4,6 +4,8 @@
 pub mod command;
 pub mod hex;
 pub mod input;
+pub mod line;
 pub mod lines;
 pub mod printed;
+mod run;
 pub mod words;

@@ -1,5 +1,5 @@
 // A table's chain as a line source.
-ghost use Rattle.std.specs.Prelude.{◌≡◌, ℕ, ◌<◌, [], length, nat_lt};
+ghost use Rattle.std.specs.Prelude.{◌≡◌, ℕ, ◌<◌, cond, [], length, nat_lt};
 ghost use Rattle.table.specs.Chains.{at as record_at, index_at};
 ghost use Rattle.table.specs.Lines.{line_from, kept_line};
 ghost use Rattle.table.specs.Whole.{Checked};
@@ -38,18 +38,16 @@ impl<'a> Chain<'a> {
         }
     }
 
-    // Whether a point is left.
-    fn is_inside(&self) -> bool
-        ensures { result ≡ nat_lt self.now.at self.now.count }
+    // The record here, if a point is left.
+    fn record(&self) -> Option<Record>
+        ensures { result ≡ cond (nat_lt self.now.at self.now.count)
+            (Some (record_at self.now.table.now self.now.here)) None }
     {
-        self.at < self.count
-    }
-
-    fn record(&self) -> Record
-        requires { self.now.here < length self.now.table.now }
-        ensures { result ≡ record_at self.now.table.now self.now.here }
-    {
-        self.table[usize::from(self.here)]
+        if self.at < self.count {
+            Some(self.table[usize::from(self.here)])
+        } else {
+            None
+        }
     }
 }
 
@@ -58,6 +56,7 @@ impl CoordsIter for Chain<'_> {
 
     ghost position = { λ line. line.at };
 
+    #[tactic(auto, using(crate::proofs::Positions::length_line))]
     fn coords_count(&self) -> usize {
         usize::from(self.count)
     }
@@ -67,17 +66,15 @@ impl CoordsIter for Chain<'_> {
         self.here = self.first;
     }
 
+    #[tactic(auto, using(crate::proofs::Positions::nth_line, crate::proofs::Positions::nth_line_past))]
     fn current(&self) -> Option<Point> {
-        if self.is_inside() {
-            Some(Point::from(self.record()))
-        } else {
-            None
-        }
+        self.record().map(Point::from)
     }
 
+    #[tactic(auto, using(crate::proofs::Positions::length_line, crate::proofs::Positions::index_more))]
     fn advance(&mut self) {
-        if self.is_inside() {
-            self.here = self.record().next;
+        if let Some(record) = self.record() {
+            self.here = record.next;
             self.at += 1;
         }
     }

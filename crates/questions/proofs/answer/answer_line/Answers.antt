@@ -1,27 +1,25 @@
-use Rattle.std.proofs.Common.{◌≡◌, string_bytes, ap, ◌∙◌}
-use Rattle.std.proofs.lemmas.Result.{IfOk-weaker}
+use Rattle.std.proofs.Common.{string_bytes, ap, ◌∙◌}
 use Rattle.std.proofs.lemmas.Option.{MatchOption-at_some, MatchOption-at_none}
+use Rattle.std.proofs.lemmas.Result.{IfOk-weaker}
 use Rattle.questions.specs.Asked.{asked}
-use Rattle.questions.specs.Answers.{printed, malformed_text}
-use Rattle.questions.proofs.Unique.{answers_it, refuses_it}
+use Rattle.questions.specs.Answers.{printed}
+use Rattle.questions.proofs.Unique.{answers_it, refuses_it, malformed_printed}
 use Rattle.questions.proofs.answer.answer_line.Goals as goal
+use Rattle.questions.proofs.answer.answer_line.Goals.{in-Some+in_ok-answer-in-Some, in-None}
 
-pub returns-in_ok-ask-in-Some : goal.returns-in_ok-ask-in-Some
-returns-in_ok-ask-in-Some c =
-    let text = c.args.text.now in
-    let start = c.args.line.start in
-    let end = c.args.line.end in
-    let read = MatchOption-at_some _ _ _ c.in-Some.is c.in_ok-question.ensures in
-    IfOk-weaker c.answer_text.result (λ s. string_bytes s ≡ printed c.in_ok-ask-in-Some.field-0) _
+pub returns : goal.returns
+returns c =
+    let line = c.args.line.bytes.now in
+    IfOk-weaker c.format.result _ _
     (λ s e.
-    answers_it text start end (asked c.in-Some.question) (string_bytes s) read
-    (e ∙ ap printed c.in_ok-ask-in-Some.ensures))
-    c.answer_text.ensures
-
-pub returns-in-None : goal.returns-in-None
-returns-in-None c =
-    let none = MatchOption-at_none _ _ c.in-None.is c.in_ok-question.ensures in
-    IfOk-weaker c.malformed_text.result (λ s. string_bytes s ≡ malformed_text) _
-    (λ s e.
-    refuses_it c.args.text.now c.args.line.start c.args.line.end (string_bytes s) none e)
-    c.malformed_text.ensures
+    elim c.match-branch-2.branch [
+      | in-Some+in_ok-answer-in-Some w ↦
+          answers_it line (asked w.in-Some.question) (string_bytes s)
+          (MatchOption-at_some _ _ _ w.in-Some.is c.in_ok-question.ensures)
+          (e ∙ ap printed (w.answer-is ∙ w.in_ok-answer-in-Some.ensures))
+      | in-None w ↦
+          refuses_it line (string_bytes s)
+          (MatchOption-at_none _ _ w.in-None.is c.in_ok-question.ensures)
+          (e ∙ ap printed w.answer-is ∙ malformed_printed)
+    ])
+    c.format.ensures.ok

@@ -1,27 +1,14 @@
-use Rattle.std.proofs.Common.{◌+◌, ◌<◌, [], ◌∷◌, ◌++◌, length, get_or, vec_items, ap, ◌∙◌, arith}
-use lib.Ieee.{nan}
-use Rattle.std.proofs.lemmas.List.{take_all}
-use Rattle.questions.specs.Spelling.{coordinates}
-use Rattle.questions.proofs.Held.{length_coordinates, coordinates_push, take_two}
+use Rattle.std.proofs.Common.{◌≡◌, ◌*◌, ◌/◌, length, map, ap, ◌∙◌, arith}
+use Rattle.questions.specs.Spelling.{coordinates, pair_point}
+use Rattle.questions.proofs.Held.{length_coordinates, coordinates_pairs}
 use Rattle.questions.proofs.arguments.points_of.Goals as goal
 
-pub returns-then-numbers-ne0 : goal.returns-then-numbers-ne0
-returns-then-numbers-ne0 c ps e = c.if-numbers-ne0.true (omega (arith, length_coordinates ps, e))
-
-pub loop-i-preserved : goal.loop-i-preserved
-loop-i-preserved c =
-    let xs = c.args.numbers.now in
-    let i = c.loop-i.i in
-    let more : c.loop-i.i + 1 < length c.args.numbers.now = omega arith in
-    let two = get_or xs i nan ∷ (get_or xs (i + 1) nan ∷ []) in (
-      omega arith,
-      omega arith,
-      ap coordinates c.in_ok-push.ensures.items
-          ∙ coordinates_push (vec_items c.loop-i.points) _
-          ∙ ap (λ l. l ++ two) c.loop-i.invariant.2
-          ∙ take_two xs i more,
-    )
+pub returns-in_default : goal.returns-in_default
+returns-in_default c ps e = omega (arith, length_coordinates ps, e, c.as_chunks.ensures.back_len)
 
 pub returns : goal.returns
 returns c =
-    c.loop-i.invariant.2 ∙ take_all c.loop-i.i c.args.numbers.now c.loop-i-test.false
+    let xs = c.args.numbers.now in
+    let even : length c.args.numbers.now ≡ 2 * (length c.args.numbers.now / 2) = omega (arith, c.as_chunks.ensures.back_len) in
+    ap coordinates (c.in_ok-each_point.ensures ∙ ap (map pair_point) c.as_chunks.ensures.front)
+    ∙ coordinates_pairs (length xs / 2) xs even

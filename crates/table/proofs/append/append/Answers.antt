@@ -18,8 +18,7 @@ loop-point-init c =
     let checked = c.in_ok-line.ensures.checked in
     let same = c.in_ok-line.ensures.same in
     record {
-      same_table = refl;
-      same_head = refl;
+      same = (refl, refl);
       here = e.here;
       appending = appending.append_at t0 h0 ps _ _ _ _
           (appending.append_start t0 h0 ps _ checked.whole (omega (arith, c.free_count.ensures, ap length same.0, ap (λ h. h.count) same.1)) (e.before checked)) _ _ _ _ e.table e.head refl refl;
@@ -27,20 +26,13 @@ loop-point-init c =
 
 pub insert-requires : goal.insert-requires
 insert-requires c =
-    let t0 = c.args.table.now in
-    let h0 = c.args.head.now in
     let ps = c.args.points.now in
     let i = c.loop-point.point-index in
-    let u = c.loop-point.invariant.appending in
     let sized = c.in_ok-line.ensures.checked.sized in
     let inside =
-    appending.append_inside t0 h0 ps _ _ _ (get_or ps i none) (drop (i + 1) ps) _ u
-    (drop_more ps i none (omega arith)) in
-    record {
-      before = appending.append_before t0 h0 ps _ _ _ _ u (omega (arith, inside.0));
-      free = inside.0;
-      room = omega (arith, inside.1, sized.most);
-    }
+    appending.append_inside c.args.table.now c.args.head.now ps _ _ _ _ c.loop-point.invariant.appending
+    (get_or ps i none) (drop (i + 1) ps) (drop_more ps i none (omega arith)) in
+    record { before = inside.0; free = inside.1; room = omega (arith, inside.2, sized.most) }
 
 pub loop-point-preserved : goal.loop-point-preserved
 loop-point-preserved c =
@@ -54,14 +46,13 @@ loop-point-preserved c =
     let e = c.insert.ensures in
     let edit = c.in_ok-edit.ensures.number in
     let more =
-    appending.append_more t0 h0 ps _ _ _ p (drop (i + 1) ps) _ u.appending (drop_more ps i none (omega arith))
+    appending.append_more t0 h0 ps _ _ _ _ u.appending p (drop (i + 1) ps) (drop_more ps i none (omega arith))
     edit.left in
     let written =
     ap (λ k. inserted_table at.table.now at.head.now at.before k p c.in_ok-edit.edit) u.here
     ∙ ap (inserted_table at.table.now at.head.now at.before 0 p) edit.next in
     record {
-      same_table = e.same_table ∙ u.same_table;
-      same_head = e.same_head ∙ u.same_head;
+      same = (e.same.0 ∙ u.same.0, e.same.1 ∙ u.same.1);
       here = e.here ∙ u.here;
       appending = appending.append_at t0 h0 ps _ _ _ _ more _ _ _ _ (e.table ∙ written) e.head e.before refl;
     }

@@ -1,11 +1,11 @@
 use Rattle.std.proofs.Common.{◌≡◌, drop}
+use Rattle.table.specs.Cursors.{HoldsSame}
 use Rattle.table.proofs.Appending.{Appending}
 use Rattle.table.proofs.append.append.Given as goal
 
 abbrev pub invariant-loop-point : goal.invariant-loop-point
 invariant-loop-point l = record {
-  same_table : l.cursor.table.ghost_name ≡ l.initial.cursor.table.ghost_name;
-  same_head : l.cursor.head.ghost_name ≡ l.initial.cursor.head.ghost_name;
+  same : HoldsSame l.initial.cursor l.cursor;
   here : l.cursor.here ≡ 0;
   appending : Appending l.fn.table l.fn.head l.points l.cursor.table.now l.cursor.head.now l.cursor.before
       (drop l.point-index l.points);

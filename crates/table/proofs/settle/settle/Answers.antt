@@ -8,8 +8,7 @@ loop-init c =
     let h0 = c.args.head.now in
     let e = c.start-cursor.ensures in
     record {
-      same_table = refl;
-      same_head = refl;
+      same = (refl, refl);
       head = e.head;
       settling = settling.settle_at t0 h0 _ _ _
           (settling.settle_start t0 h0 _ (omega arith) c.in_ok-check.ensures.whole) _ _ _ e.table e.here refl;
@@ -26,8 +25,7 @@ loop-preserved c =
     let u = c.loop.invariant in
     let e = c.renumber.ensures in
     record {
-      same_table = e.same_table ∙ u.same_table;
-      same_head = e.same_head ∙ u.same_head;
+      same = (e.same.0 ∙ u.same.0, e.same.1 ∙ u.same.1);
       head = e.head ∙ u.head;
       settling = settling.settle_at t0 h0 _ _ _ (settling.settle_more t0 h0 _ _ _ u.settling (omega arith))
           _ _ _ e.table e.here (omega arith);

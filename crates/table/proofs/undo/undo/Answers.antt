@@ -9,8 +9,7 @@ loop-init c =
     let h0 = c.args.head.now in
     let e = c.start-cursor.ensures in
     record {
-      same_table = refl;
-      same_head = refl;
+      same = (refl, refl);
       undoing = undoing.undo_at t0 h0 _ _ _ _ _
           (undoing.undo_start t0 h0 _ (omega arith) c.in_ok-check.ensures.whole) _ _ _ _ _ e.table e.head
           e.before e.here refl;
@@ -18,22 +17,17 @@ loop-init c =
 
 pub record-requires : goal.record-requires
 record-requires c =
-    (undoing.undo_inside c.args.table.now c.args.head.now _ _ _ _ _ c.loop.invariant.undoing (omega arith)).0
+    (undoing.undo_inside c.args.table.now c.args.head.now _ _ _ _ _ c.loop.invariant.undoing (omega arith)).1
 
 pub remove-requires : goal.remove-requires
 remove-requires c =
-    let t0 = c.args.table.now in
-    let h0 = c.args.head.now in
-    let inside = undoing.undo_inside t0 h0 _ _ _ _ _ c.loop.invariant.undoing (omega arith) in
-    record {
-      before = undoing.undo_before t0 h0 _ _ _ _ _ c.loop.invariant.undoing (omega (arith, inside.0));
-      here = inside.0;
-      some = inside.1;
-    }
+    let inside =
+    undoing.undo_inside c.args.table.now c.args.head.now _ _ _ _ _ c.loop.invariant.undoing (omega arith) in
+    record { before = inside.0; here = inside.1; some = inside.2 }
 
 pub step-requires : goal.step-requires
 step-requires c =
-    (undoing.undo_inside c.args.table.now c.args.head.now _ _ _ _ _ c.loop.invariant.undoing (omega arith)).0
+    (undoing.undo_inside c.args.table.now c.args.head.now _ _ _ _ _ c.loop.invariant.undoing (omega arith)).1
 
 pub loop-preserved : goal.loop-preserved
 loop-preserved c =
@@ -45,8 +39,7 @@ loop-preserved c =
       | then-record-newest w ↦
           let e = w.remove.ensures in
           rw w.cursor-is (record {
-            same_table = e.same_table ∙ u.same_table;
-            same_head = e.same_head ∙ u.same_head;
+            same = (e.same.0 ∙ u.same.0, e.same.1 ∙ u.same.1);
             undoing = undoing.undo_at t0 h0 _ _ _ _ _
                 (undoing.undo_drop t0 h0 _ _ _ _ _ u.undoing (omega arith) (sym ed ∙ w.if-record-newest.true))
                 _ _ _ _ _ e.table e.head e.before e.here (omega arith);
@@ -54,8 +47,7 @@ loop-preserved c =
       | else-record-newest w ↦
           let e = w.step.ensures in
           rw w.cursor-is (record {
-            same_table = e.same_table ∙ u.same_table;
-            same_head = e.same_head ∙ u.same_head;
+            same = (e.same.0 ∙ u.same.0, e.same.1 ∙ u.same.1);
             undoing = undoing.undo_at t0 h0 _ _ _ _ _
                 (undoing.undo_keep t0 h0 _ _ _ _ _ u.undoing (omega arith)
                 (λ q. w.if-record-newest.false (ed ∙ q)))

@@ -16,7 +16,7 @@ parts g s most = parts_in (g.S.Space.far s) most (g.S.Space.ratio s)
 
 pub loop-init : goal.loop-init
 loop-init g c =
-    let parts = parts g c.args.space.now c.args.maximum in
+    let parts = parts g c.args.cut.now.space.now c.args.cut.now.maximum in
     let t = c.args.table.now in
     let s = c.start-cursor.ensures in
     let e = c.step.ensures in
@@ -24,8 +24,7 @@ loop-init g c =
     let started = (weave_start parts t c.args.head.now (c.args.head.now.newest + 1) _ c.requires.checked.whole
     c.requires.some c.requires.room (omega arith) (omega arith)).1 in
     record {
-      same_table = refl;
-      same_head = refl;
+      same = (refl, refl);
       weaving = weave_at parts _ _ _ _ _ _ _ _ _ _ _ _ _ _ _ started (e.table ∙ s.table) (e.head ∙ s.head)
           (e.before ∙ s.here) (e.here ∙ ap (λ r. r.next) first) refl
           (c.from-start.ensures ∙ ap point_in (c.record.ensures ∙ first));
@@ -33,16 +32,15 @@ loop-init g c =
 
 pub record-requires-in-loop : goal.record-requires-in-loop
 record-requires-in-loop g c =
-    (pair_open (parts g c.args.space.now c.args.maximum) _ _ _ _ _ _ _ _ _ c.loop.invariant.weaving
+    (pair_open (parts g c.args.cut.now.space.now c.args.cut.now.maximum) _ _ _ _ _ _ _ _ _ c.loop.invariant.weaving
     (omega arith)).0
 
 pub loop-k-init : goal.loop-k-init
 loop-k-init g c =
-    let parts = parts g c.args.space.now c.args.maximum in
+    let parts = parts g c.args.cut.now.space.now c.args.cut.now.maximum in
     let end = c.from-end.ensures ∙ ap point_in c.record-in-loop.ensures in
     record {
-      same_table = refl;
-      same_head = refl;
+      same = (refl, refl);
       here = refl;
       pair = λ t0 h0 p n pair u.
           pair_at parts _ _ _ _ _ _ _ _ _ _ _ _ _ _ _ _
@@ -51,13 +49,13 @@ loop-k-init g c =
 
 pub insert-requires : goal.insert-requires
 insert-requires g c =
-    let parts = parts g c.args.space.now c.args.maximum in
+    let parts = parts g c.args.cut.now.space.now c.args.cut.now.maximum in
     let is = c.count_pieces-pieces.ensures in
     let pq = c.prepare-pair.ensures in
     let fits : c.count_pieces-pieces.result < 4294967296 = search rules in
-    let more = parts_more (g.S.Space.far c.args.space.now) c.args.maximum
-    (g.S.Space.ratio c.args.space.now) (g.S.Space.paired c.args.space.now)
-    (g.S.Space.between c.args.space.now) (g.met.S.Space.pairs c.args.space.now) c.loop.start
+    let more = parts_more (g.S.Space.far c.args.cut.now.space.now) c.args.cut.now.maximum
+    (g.S.Space.ratio c.args.cut.now.space.now) (g.S.Space.paired c.args.cut.now.space.now)
+    (g.S.Space.between c.args.cut.now.space.now) (g.met.S.Space.pairs c.args.cut.now.space.now) c.loop.start
     c.from-end.result c.loop-k.k (omega arith) c.count_pieces-pieces.result is
     c.prepare-pair.result pq fits (omega arith) in
     let inside = pair_room parts _ _ _ _ _ _ _ _ _ _ _
@@ -70,59 +68,57 @@ insert-requires g c =
 
 pub loop-k-preserved : goal.loop-k-preserved
 loop-k-preserved g c =
-    let parts = parts g c.args.space.now c.args.maximum in
+    let parts = parts g c.args.cut.now.space.now c.args.cut.now.maximum in
     let fits : c.count_pieces-pieces.result < 4294967296 = search rules in
     let at = c.loop-k.cursor in
     let i = c.loop-k.invariant in
     let e = c.insert.ensures in
     record {
-      same_table = e.same_table ∙ i.same_table;
-      same_head = e.same_head ∙ i.same_head;
+      same = (e.same.0 ∙ i.same.0, e.same.1 ∙ i.same.1);
       here = e.here ∙ i.here;
       pair = λ t0 h0 p n pair u.
-          let more = parts_more (g.S.Space.far c.args.space.now) c.args.maximum
-          (g.S.Space.ratio c.args.space.now) (g.S.Space.paired c.args.space.now)
-          (g.S.Space.between c.args.space.now) (g.met.S.Space.pairs c.args.space.now) p
+          let more = parts_more (g.S.Space.far c.args.cut.now.space.now) c.args.cut.now.maximum
+          (g.S.Space.ratio c.args.cut.now.space.now) (g.S.Space.paired c.args.cut.now.space.now)
+          (g.S.Space.between c.args.cut.now.space.now) (g.met.S.Space.pairs c.args.cut.now.space.now) p
           c.from-end.result c.loop-k.k (omega arith) c.count_pieces-pieces.result n
           c.prepare-pair.result pair fits (omega arith)
           ∙ ap (λ v. v ∷ drop (c.loop-k.k + 1 - 1) (parts p c.from-end.result))
-          (sym c.part-point.ensures) in
+          (sym c.part.ensures) in
           pair_at parts _ _ _ _ _ _ _ _ _ _ _ _ _ _ _ _
-          (pair_more parts _ _ _ _ _ _ _ _ _ _ _ (i.pair t0 h0 p n pair u) c.part-point.result
+          (pair_more parts _ _ _ _ _ _ _ _ _ _ _ (i.pair t0 h0 p n pair u) c.part.result
           (drop (c.loop-k.k + 1 - 1) (parts p c.from-end.result)) more (omega (arith, c.requires.left)))
           refl refl
           (e.table
-          ∙ ap (λ k. inserted_table at.table.now at.head.now at.before k c.part-point.result
+          ∙ ap (λ k. inserted_table at.table.now at.head.now at.before k c.part.result
           (c.args.head.now.newest + 1)) i.here)
           e.head e.before;
     }
 
 pub step-requires-in-loop : goal.step-requires-in-loop
 step-requires-in-loop g c =
-    let parts = parts g c.args.space.now c.args.maximum in
+    let parts = parts g c.args.cut.now.space.now c.args.cut.now.maximum in
     let is = c.count_pieces-pieces.ensures in
-    let done = parts_done (g.S.Space.far c.args.space.now) c.args.maximum
-    (g.S.Space.ratio c.args.space.now) (g.S.Space.paired c.args.space.now)
-    (g.S.Space.between c.args.space.now) (g.met.S.Space.pairs c.args.space.now) c.loop.start
+    let done = parts_done (g.S.Space.far c.args.cut.now.space.now) c.args.cut.now.maximum
+    (g.S.Space.ratio c.args.cut.now.space.now) (g.S.Space.paired c.args.cut.now.space.now)
+    (g.S.Space.between c.args.cut.now.space.now) (g.met.S.Space.pairs c.args.cut.now.space.now) c.loop.start
     c.from-end.result c.loop-k.k (omega arith) c.count_pieces-pieces.result is (omega arith) in
     rw c.loop-k.invariant.here (pair_shut parts _ _ _ _ _ _ _ _ _ _ _
     (c.loop-k.invariant.pair _ _ c.loop.start is c.prepare-pair.ensures c.loop.invariant.weaving) done).0
 
 pub loop-preserved : goal.loop-preserved
 loop-preserved g c =
-    let parts = parts g c.args.space.now c.args.maximum in
+    let parts = parts g c.args.cut.now.space.now c.args.cut.now.maximum in
     let is = c.count_pieces-pieces.ensures in
-    let done = parts_done (g.S.Space.far c.args.space.now) c.args.maximum
-    (g.S.Space.ratio c.args.space.now) (g.S.Space.paired c.args.space.now)
-    (g.S.Space.between c.args.space.now) (g.met.S.Space.pairs c.args.space.now) c.loop.start
+    let done = parts_done (g.S.Space.far c.args.cut.now.space.now) c.args.cut.now.maximum
+    (g.S.Space.ratio c.args.cut.now.space.now) (g.S.Space.paired c.args.cut.now.space.now)
+    (g.S.Space.between c.args.cut.now.space.now) (g.met.S.Space.pairs c.args.cut.now.space.now) c.loop.start
     c.from-end.result c.loop-k.k (omega arith) c.count_pieces-pieces.result is (omega arith) in
     let i = c.loop-k.invariant in
     let e = c.step-in-loop.ensures in
     let shut = (pair_shut parts _ _ _ _ _ _ _ _ _ _ _
     (i.pair _ _ c.loop.start is c.prepare-pair.ensures c.loop.invariant.weaving) done).1 in
     record {
-      same_table = e.same_table ∙ (i.same_table ∙ c.loop.invariant.same_table);
-      same_head = e.same_head ∙ (i.same_head ∙ c.loop.invariant.same_head);
+      same = (e.same.0 ∙ (i.same.0 ∙ c.loop.invariant.same.0), e.same.1 ∙ (i.same.1 ∙ c.loop.invariant.same.1));
       weaving = weave_at parts _ _ _ _ _ _ _ _ _ _ _ _ _ _ _ shut e.table e.head (e.before ∙ i.here)
           (e.here ∙ ap (λ k. (at c.loop-k.cursor.table.now k).next) i.here) (omega arith) refl;
     }
@@ -130,6 +126,6 @@ loop-preserved g c =
 pub returns : goal.returns
 returns g c =
     let at = c.loop.cursor in
-    weave_end (parts g c.args.space.now c.args.maximum) c.args.table.now c.args.head.now
+    weave_end (parts g c.args.cut.now.space.now c.args.cut.now.maximum) c.args.table.now c.args.head.now
     at.table.now at.head.now at.before at.here c.loop.start _ c.loop.invariant.weaving (omega arith)
     c.requires.left _ _ _ _ (search rules) (search rules) (search rules) (search rules)

@@ -1,28 +1,16 @@
 use Rattle.std.proofs.Common.{length, ap, subst, arith}
-use Rattle.text.specs.Lines.{part}
-use Rattle.text.specs.Grammar.{WordAt}
-use Rattle.text.proofs.Commands.{spelled_letter, by_letter}
+use Rattle.text.specs.Grammar.{WordFirst}
+use Rattle.text.proofs.Commands.{spelled_letter}
 use Rattle.text.proofs.command.read_command.Goals as goal
-
-pub returns-in-Letter : goal.returns-in-Letter
-returns-in-Letter c =
-    let job = c.args.job.now in
-    let start = c.args.start in
-    let end = c.args.end in
-    let word = subst (WordAt job start end) c.in-Letter.is c.in_ok-name.ensures in
-    by_letter c.dispatch.result job start end c.in-Letter.name.now
-    word.inside word.whole word.sized c.dispatch.ensures
-
-pub returns-in-Number : goal.returns-in-Number
-returns-in-Number c inside q sized e =
-    let job = c.args.job.now in
-    let start = c.args.start in
-    let end = c.args.end in
-    let word = subst (WordAt job start end) c.in-Number.is c.in_ok-name.ensures in
-    omega (arith, spelled_letter (part job start end) q e, ap length word.whole, word.sized)
 
 pub returns-in_err-name : goal.returns-in_err-name
 returns-in_err-name c =
-    rw c.from_residual.ensures (λ inside q sized e.
-    (c.in_err-name.ensures inside).no_letter
-    (spelled_letter (part c.args.job.now c.args.start c.args.end) q e))
+    rw c.from_residual.ensures (λ q sized e.
+    c.in_err-name.ensures.no_letter (spelled_letter c.args.line.bytes.now q e))
+
+pub returns-in-Number-default : goal.returns-in-Number-default
+returns-in-Number-default c q sized e =
+    let line = c.args.line in
+    let read = c.in_ok-name.ensures.0 in
+    let word = subst (λ w. WordFirst line.bytes.now line.place w c.in_ok-name.field-0.1.bytes.now) c.in-Number-default.is-0 read in
+    omega (arith, spelled_letter line.bytes.now q e, ap length word.first, word.sized)

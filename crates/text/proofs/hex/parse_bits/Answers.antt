@@ -1,5 +1,5 @@
-use Rattle.std.proofs.Common.{◌≡◌, ◌*◌, ◌^◌, ◌<◌, [], ◌∷◌, ◌++◌, length, get_or, take, sym, refl, ap, ◌∙◌, subst, arith}
-use Rattle.std.proofs.lemmas.List.{take_more, take_all}
+use Rattle.std.proofs.Common.{◌<◌, [], ◌∷◌, ◌++◌, length, get_or, sym, refl, ap, ◌∙◌, arith}
+use Rattle.std.proofs.lemmas.List.{take_more}
 use Rattle.text.specs.Hex.{hex_char, hex_text}
 use Rattle.text.proofs.HexLaws.{length_hex_text, hex_text_push, hex_at, room, wider}
 use Rattle.text.proofs.hex.parse_bits.Goals as goal
@@ -11,11 +11,12 @@ pub loop-b-init : goal.loop-b-init
 unfolding hex_text
 loop-b-init c = (omega arith, refl)
 
-pub returns-in_default : goal.returns-in_default
-returns-in_default c n lt e =
+pub returns-in_err-hex_digit : goal.returns-in_err-hex_digit
+returns-in_err-hex_digit c =
+    rw c.from_residual.ensures (λ n lt e.
     let i = c.loop-b.b-index in
     let r = hex_at 16 n c.loop-b.b-index (omega arith) in
-    c.in_default.ensures r.0 r.1 (r.2 ∙ ap (λ l. get_or l i 0) e)
+    c.in_err-hex_digit.ensures r.0 r.1 (r.2 ∙ ap (λ l. get_or l i 0) e))
 
 pub overflow_mul-n : goal.overflow_mul-n
 overflow_mul-n c = omega (arith, room c.loop-b.n c.loop-b.b-index c.loop-b.invariant.0 (omega arith))
@@ -23,14 +24,14 @@ overflow_mul-n c = omega (arith, room c.loop-b.n c.loop-b.b-index c.loop-b.invar
 pub overflow_add-n : goal.overflow_add-n
 overflow_add-n c =
     let small = room c.loop-b.n c.loop-b.b-index c.loop-b.invariant.0 (omega arith) in
-    omega (arith, c.in-Some.ensures)
+    omega (arith, c.in_ok-hex_digit.ensures)
 
 pub loop-b-preserved : goal.loop-b-preserved
 loop-b-preserved c =
     let s = c.args.s.now in
     let i = c.loop-b.b-index in
     let n = c.loop-b.n in
-    let digit = c.in-Some.ensures in
+    let digit = c.in_ok-hex_digit.ensures in
     let lt : c.from.result < 16 = omega (arith, digit.0, c.from.ensures) in
     let inside : c.loop-b.b-index < length c.args.s.now = omega arith in (
       wider _ _ _ c.loop-b.invariant.0 lt,
@@ -39,13 +40,4 @@ loop-b-preserved c =
           ∙ ap (λ b. hex_text i n ++ (b ∷ [])) digit.1
           ∙ ap (λ l. l ++ (get_or s i 0 ∷ [])) c.loop-b.invariant.1
           ∙ sym (take_more s i 0 inside),
-    )
-
-pub returns : goal.returns
-returns c =
-    let s = c.args.s.now in
-    let n = c.loop-b.n in
-    let done : c.loop-b.b-index ≡ 16 = omega arith in (
-      subst (λ i. n < 2 ^ (4 * i)) done c.loop-b.invariant.0,
-      subst (λ i. hex_text i n ≡ take i s) done c.loop-b.invariant.1 ∙ take_all 16 s (omega arith),
     )

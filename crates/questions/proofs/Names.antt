@@ -1,0 +1,45 @@
+-- The two words of a name, one after the other.
+use Rattle.std.proofs.Common.{◌≡◌, ℕ, List, ◌∷◌, ◌++◌, ◌<◌, codes, sym, refl, ap, ◌∙◌, rules}
+use Rattle.std.proofs.lemmas.List.{append_cancel_left}
+use Rattle.std.specs.Str.{IsUtf8}
+use Rattle.std.proofs.lemmas.Str.{IsUtf8-from_ascii}
+use Rattle.std.proofs.lemmas.Str.Ascii.{IsAscii-from_all}
+use Rattle.std.specs.List.{All}
+use Rattle.text.specs.Lines.{front}
+use Rattle.text.proofs.Numbers.{front_word}
+use Rattle.questions.specs.Asked.{Asked, Sqrt, Hypot, Sin, Cos, Asin, Atan2}
+use Rattle.questions.specs.Asked.{Distance, Ratio, Along, Length, Frechet}
+use Rattle.questions.specs.Reading.{NameFirst}
+use Rattle.questions.proofs.Unique.{layout}
+
+pub front_family : (line f c r : List ℕ) → NameFirst line f c r → front line ≡ f
+front_family line f c r name = ap front name.whole ∙ front_word f (32 ∷ (c ++ r)) name.first refl
+
+-- what is left after the first word
+pub after_family : (line f c r w rest : List ℕ) → NameFirst line f c r → w ≡ front line → line ≡ w ++ rest →
+    rest ≡ 32 ∷ (c ++ r)
+after_family line f c r w rest name is whole =
+    let same = is ∙ front_family line f c r name in
+    append_cancel_left f _ _ (ap (λ l. l ++ rest) (sym same) ∙ sym whole ∙ name.whole)
+
+text : (bs : List ℕ) → All (λ b. b < 128) bs → IsUtf8 bs
+text bs small = IsUtf8-from_ascii bs (IsAscii-from_all bs small)
+
+utf8_words : (q : Asked) → IsUtf8 (layout q).family × IsUtf8 (layout q).call
+utf8_words (Sqrt x) = (text (codes "host") (search rules), text (codes "sqrt") (search rules))
+utf8_words (Hypot x y) = (text (codes "host") (search rules), text (codes "hypot") (search rules))
+utf8_words (Sin x) = (text (codes "host") (search rules), text (codes "sin") (search rules))
+utf8_words (Cos x) = (text (codes "host") (search rules), text (codes "cos") (search rules))
+utf8_words (Asin x) = (text (codes "host") (search rules), text (codes "asin") (search rules))
+utf8_words (Atan2 y x) = (text (codes "host") (search rules), text (codes "atan2") (search rules))
+utf8_words (Distance p q) = (text (codes "euclidean") (search rules), text (codes "distance") (search rules))
+utf8_words (Ratio t p q) = (text (codes "euclidean") (search rules), text (codes "ratio") (search rules))
+utf8_words (Along d p q) = (text (codes "euclidean") (search rules), text (codes "along") (search rules))
+utf8_words (Length ps) = (text (codes "euclidean") (search rules), text (codes "length") (search rules))
+utf8_words (Frechet ps qs) = (text (codes "euclidean") (search rules), text (codes "frechet") (search rules))
+
+pub utf8_family : (q : Asked) → IsUtf8 (layout q).family
+utf8_family q = (utf8_words q).0
+
+pub utf8_call : (q : Asked) → IsUtf8 (layout q).call
+utf8_call q = (utf8_words q).1
