@@ -1,4 +1,4 @@
-use Rattle.std.proofs.Common.{◌≡◌, ℕ, List, Result, ap, ◌∙◌, arith}
+use Rattle.std.proofs.Common.{ℕ, List, Result, ap, ◌∙◌, arith}
 use lib.Ieee.{Float}
 use Rattle.points.specs.declared.fault.Fault.{Fault}
 use Rattle.points.specs.declared.fault.Layer.TheVariants.{Table}
