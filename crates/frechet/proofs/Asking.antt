@@ -32,8 +32,8 @@ allowed k a b m e = go (ltb k (row_count a b)) refl (leb (min a b) (m / 2)) refl
       left = ltb-true k (row_count a b) p;
       room = let h = leb-true (min a b) (m / 2) q in omega arith;
     }
-    go true p false q e = let z : ◌≡◌ {A = ℕ} 0 1 = cc in absurd (omega arith)
-    go false p v q e = let z : ◌≡◌ {A = ℕ} 0 1 = cc in absurd (omega arith)
+    go true p false q e = absurd cc
+    go false p v q e = absurd cc
 
 pub answered_allowed : (far : Point → Point → Result Float Fault) (layer : Layer) (k : ℕ) (A B : List Point)
     (xs : List Float) (l : Option Float) → (next_row far layer k A B xs).last ≡ Ok l
@@ -43,7 +43,7 @@ answered_allowed far layer k A B xs l e = go (row_allowed k (length A) (length B
     go : (r : Result (Unit {0}) Cause) → (row_unless (in_layer r layer) xs (row_in_cells far k A B xs)).last ≡ Ok l
         → r ≡ Ok tt
     go (Ok t) q = refl
-    go (Err c) q = let z : ◌≡◌ {A = ℕ} 0 1 = cc in absurd (omega arith)
+    go (Err c) q = absurd cc
 
 -- ---- how many rows there are
 

@@ -18,7 +18,7 @@ more_whole : (n : ℕ) (q : Point) (qs : List Point) (left l : Option Float) (r 
     ((c : Float) → (go c).outcome ≡ Ok l → Whole qs (Some c) l (go c)) →
     (cell_then n r (λ d. cell_and (cell d) go)).outcome ≡ Ok l
     → Whole (q ∷ qs) left l (cell_then n r (λ d. cell_and (cell d) go))
-more_whole n q qs left l (Err f) cell go ih e = let z : ◌≡◌ {A = ℕ} 0 1 = cc in absurd (omega arith)
+more_whole n q qs left l (Err f) cell go ih e = absurd cc
 more_whole n q qs left l (Ok d) cell go ih e =
     let w = ih (cell d) e in
     record { full = ap suc w.full; ends = w.ends }

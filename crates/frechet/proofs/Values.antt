@@ -22,7 +22,7 @@ value_of (Err f) = fin false 0 (pos 0)
 pub value_measured : (b : Bool) (r : Result Float Fault) → Measures b r → T (measured (value_of r))
 unfolding float_is_finite is_sign_negative
 value_measured b (Err f) h = tt
-value_measured false (Ok d) h = let z : ◌≡◌ {A = ℕ} 0 1 = cc in absurd (omega arith)
+value_measured false (Ok d) h = absurd cc
 value_measured true (Ok nan) h = absurd h
 value_measured true (Ok (inf s)) h = absurd h
 value_measured true (Ok (fin true m e)) h = absurd h
@@ -35,7 +35,7 @@ split xs n =
     ⊎_elim
     (λ h. let e = slice_get-get_or xs n nan h in (
       drop_more xs n nan h ∙ sym (ap (λ v. listed v ++ drop (n + 1) xs) e),
-      λ z. let w : ◌≡◌ {A = ℕ} 0 1 = cc in absurd (omega arith),
+      λ z. absurd cc,
     ))
     (λ h. let past = drop_all (n + 1) xs (omega arith) in
     (drop_all n xs h ∙ (sym past ∙ sym (ap (λ v. listed v ++ drop (n + 1) xs) (slice_get_past xs n h))), λ z. past))
@@ -55,7 +55,7 @@ module _ (far : Point → Point → Result Float Fault) (p : Point) where
       → (cell_then n r (λ d. cell_and (cell_of d up g l) go)).outcome ≡ Ok o
       → (cell_then n r (λ d. cell_and (cell_of d up g l) go)).cells
       ≡ row_by (listed g ++ listed l) (q ∷ qs) (listed up ++ rest)
-  at n q qs g l o (Err f) er up rest none go ih e = let z : ◌≡◌ {A = ℕ} 0 1 = cc in absurd (omega arith)
+  at n q qs g l o (Err f) er up rest none go ih e = absurd cc
   at n q qs g l o (Ok d) er (Some u) rest none go ih e =
       ap (λ v. cell_of d (Some u) g l ∷ v) (ih (cell_of d (Some u) g l) e)
       ∙ ap (λ v. cell_of (value_of v) (Some u) g l ∷ row_by (u ∷ cell_of (value_of v) (Some u) g l ∷ []) qs rest)
@@ -86,7 +86,7 @@ module _ (far : Point → Point → Result Float Fault) (p : Point) where
       → far p (get_or qs j nowhere) ≡ Ok (dist p (get_or qs j nowhere)))
       → (cell_then n r (λ d. cell_and (cell d) go)).outcome ≡ Ok o
       → (j : ℕ) → j < length (q ∷ qs) → far p (get_or (q ∷ qs) j nowhere) ≡ Ok (dist p (get_or (q ∷ qs) j nowhere))
-  asked n q qs o (Err f) er cell go ih e j h = let z : ◌≡◌ {A = ℕ} 0 1 = cc in absurd (omega arith)
+  asked n q qs o (Err f) er cell go ih e j h = absurd cc
   asked n q qs o (Ok d) er cell go ih e zero h = er ∙ ap (λ v. Ok (value_of v)) (sym er)
   asked n q qs o (Ok d) er cell go ih e (suc j) h = ih (cell d) e j (omega arith)
 
@@ -105,5 +105,5 @@ last_some z [] = refl
 last_some z (c ∷ cs) = last_some c cs
 
 pub last_is : (z d : Float) (cs : List Float) → last_from None cs ≡ Some d → last_or z cs ≡ d
-last_is z d [] e = let w : ◌≡◌ {A = ℕ} 0 1 = cc in absurd (omega arith)
+last_is z d [] e = absurd cc
 last_is z d (c ∷ cs) e = let w = last_some c cs in cc
