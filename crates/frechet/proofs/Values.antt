@@ -1,7 +1,7 @@
 -- A distance as a value, and the row rule on values.
 use Rattle.std.proofs.Common.{◌≡◌, ℕ, zero, suc, ◌+◌, ◌<◌, Bool, true, false, T, List, [], ◌∷◌, ◌++◌, length, get_or, drop, pos, Some, None, Ok, Err, Option, Result, sym, refl, ap, ◌∙◌, ⊎_elim, arith}
-use lib.Ieee.{Float, nan, inf, fin, lt}
-use Rattle.std.specs.Float.{float_is_finite, is_sign_negative}
+use lib.Ieee.{Float, nan, inf, fin, is_nan, lt}
+use Rattle.std.specs.Float.{float_is_finite}
 use Rattle.std.specs.List.{slice_get}
 use Rattle.std.proofs.lemmas.List.{drop_all, drop_more}
 use Rattle.std.proofs.lemmas.Option.{slice_get-get_or, slice_get_past}
@@ -12,21 +12,21 @@ use Rattle.points.specs.declared.point.Point.{Point}
 use Rattle.spaces.specs.Space.{Measures}
 use Rattle.frechet.specs.Row.{Run, listed, cell_of, cell_then, cell_and, row_from, last_from}
 use Rattle.frechet.specs.Theorem.{nowhere}
-use Rattle.frechet.proofs.Order.{measured}
+use Rattle.frechet.proofs.Order.{is_number}
 
 -- the distance, and zero where there is none
 abbrev pub value_of : Result Float Fault → Float
 value_of (Ok d) = d
 value_of (Err f) = fin false 0 (pos 0)
 
-pub value_measured : (b : Bool) (r : Result Float Fault) → Measures b r → T (measured (value_of r))
-unfolding float_is_finite is_sign_negative
-value_measured b (Err f) h = tt
-value_measured false (Ok d) h = absurd cc
-value_measured true (Ok nan) h = absurd h
-value_measured true (Ok (inf s)) h = absurd h
-value_measured true (Ok (fin true m e)) h = absurd h
-value_measured true (Ok (fin false m e)) h = tt
+-- a measured distance is a number
+pub value_number : (b : Bool) (r : Result Float Fault) → Measures b r → T (is_number (value_of r))
+unfolding float_is_finite is_nan
+value_number b (Err f) h = tt
+value_number false (Ok d) h = absurd cc
+value_number true (Ok nan) h = absurd h
+value_number true (Ok (inf s)) h = tt
+value_number true (Ok (fin s m e)) h = tt
 
 -- what lies at a place of the row above, and after it
 split : (xs : List Float) (n : ℕ)
