@@ -9,7 +9,6 @@ use points::point::Point;
 use spaces::space::Space;
 
 // Writes a row under the row before, which is empty at the first, and answers its last cell.
-
 fn fill<S: Space, L: CoordsIter>(
     cells: &mut [f64],
     before: &[f64],
