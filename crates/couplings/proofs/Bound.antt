@@ -1,14 +1,13 @@
 -- The discrete Fréchet distance bounds the pairs of couplings: it is what the least coupling costs, where
 -- distances join by the larger.
-use mathlib.Core.Path.{◌≡◌, refl, sym, ◌∙◌, subst}
+use mathlib.Core.Path.{◌≡◌, refl, ◌∙◌, subst}
 use mathlib.Core.List.{List, [], ◌∷◌}
 use mathlib.Core.Bool.{Bool}
 use mathlib.Core.Logic.{◌⊎◌, inl, inr}
-use Prim.Native.Nat.{◌<◌}
 use lib.Dec.{T}
 use lib.ListN.{length}
 use Rattle.std.proofs.lemmas.Bool.{cases_cond}
-use Rattle.couplings.specs.Coupling.{Pair, IsCoupling, Among, Each, Some}
+use Rattle.couplings.specs.Coupling.{Pair, IsCoupling, Each, Some}
 use Rattle.couplings.specs.Rows.{Ordered, larger}
 use Rattle.couplings.specs.Costs.{Costing, onward, worth, SomeCosts, NoneLess}
 use Rattle.couplings.specs.Nearness.{Measure, answers, AtMost, apart_in, Near, Far, Measured, CouplingBound}

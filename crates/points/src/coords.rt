@@ -106,7 +106,7 @@ impl<L: CoordsIter> Iterator for Lines<'_, L> {
 
     ghost next_gives = { λ s r t.
         YieldsFirst (λ it. pairs_from it.start
-            (drop (L.position it.line.now) (L.coords it.line.now))) s r t
+        (drop (L.position it.line.now) (L.coords it.line.now))) s r t
         × (t.line.ghost_name ≡ s.line.ghost_name)
         × (L.coords t.line.now ≡ L.coords s.line.now) };
 
