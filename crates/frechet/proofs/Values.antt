@@ -1,11 +1,10 @@
 -- A distance as a value, and the row rule on values.
-use Rattle.std.proofs.Common.{◌≡◌, ℕ, zero, suc, ◌+◌, ◌<◌, Bool, true, false, T, List, [], ◌∷◌, ◌++◌, length, get_or, drop, pos, Some, None, Ok, Err, Option, Result, sym, refl, ap, ◌∙◌, ⊎_elim, arith}
+use Rattle.std.proofs.Common.{◌≡◌, ℕ, zero, suc, ◌+◌, ◌<◌, Bool, true, false, T, List, [], ◌∷◌, ◌++◌, length, get_or, drop, pos, Some, None, Ok, Err, Option, Result, sym, refl, ap, ◌∙◌, arith}
 use lib.Ieee.{Float, nan, inf, fin, is_nan, lt}
 use Rattle.std.specs.Float.{float_is_finite}
 use Rattle.std.specs.List.{slice_get}
-use Rattle.std.proofs.lemmas.List.{drop_all, drop_more}
-use Rattle.std.proofs.lemmas.Option.{slice_get-get_or, slice_get_past}
-use Rattle.std.proofs.lemmas.Bool.{cases_lt}
+use Rattle.std.proofs.lemmas.Grind.{common_steps}
+use Rattle.std.proofs.lemmas.Option.{slice_get_cases}
 use Rattle.couplings.specs.Rows.{row, larger, last_or}
 use Rattle.points.specs.declared.fault.Fault.{Fault}
 use Rattle.points.specs.declared.point.Point.{Point}
@@ -31,15 +30,7 @@ value_number true (Ok (fin s m e)) h = tt
 -- what lies at a place of the row above, and after it
 split : (xs : List Float) (n : ℕ)
     → (drop n xs ≡ listed (slice_get xs n) ++ drop (n + 1) xs) × (slice_get xs n ≡ None → drop (n + 1) xs ≡ [])
-split xs n =
-    ⊎_elim
-    (λ h. let e = slice_get-get_or xs n nan h in (
-      drop_more xs n nan h ∙ sym (ap (λ v. listed v ++ drop (n + 1) xs) e),
-      λ z. absurd cc,
-    ))
-    (λ h. let past = drop_all (n + 1) xs (omega arith) in
-    (drop_all n xs h ∙ (sym past ∙ sym (ap (λ v. listed v ++ drop (n + 1) xs) (slice_get_past xs n h))), λ z. past))
-    (cases_lt n (length xs))
+split xs n = let c = slice_get_cases xs n in (grind (arith, common_steps), grind (arith, common_steps))
 
 module _ (far : Point → Point → Result Float Fault) (p : Point) where
   abbrev pub dist : Point → Point → Float
@@ -57,15 +48,10 @@ module _ (far : Point → Point → Result Float Fault) (p : Point) where
       ≡ row_by (listed g ++ listed l) (q ∷ qs) (listed up ++ rest)
   at n q qs g l o (Err f) er up rest none go ih e = absurd cc
   at n q qs g l o (Ok d) er (Some u) rest none go ih e =
-      ap (λ v. cell_of d (Some u) g l ∷ v) (ih (cell_of d (Some u) g l) e)
-      ∙ ap (λ v. cell_of (value_of v) (Some u) g l ∷ row_by (u ∷ cell_of (value_of v) (Some u) g l ∷ []) qs rest)
-      (sym er)
+      rw er (ap (λ v. cell_of d (Some u) g l ∷ v) (ih (cell_of d (Some u) g l) e))
   at n q qs g l o (Ok d) er None rest none go ih e =
-      ap (λ v. cell_of d None g l ∷ v) (ih (cell_of d None g l) e)
-      ∙ ap (λ v. cell_of (value_of v) None g l ∷ row_by (cell_of (value_of v) None g l ∷ []) qs rest) (sym er)
-      ∙ ap (λ v. cell_of (value_of (far p q)) None g l ∷ row_by (cell_of (value_of (far p q)) None g l ∷ []) qs v)
-      (none refl)
-      ∙ sym (ap (row_by (listed g ++ listed l) (q ∷ qs)) (none refl))
+      rw (none refl, er)
+      (ap (λ v. cell_of d None g l ∷ v) (rw (none refl) at (ih (cell_of d None g l) e)))
 
   -- an accepted row is the row of the values
   pub row_values : (qs : List Point) (above : List Float) (n : ℕ) (g l o : Option Float)

@@ -1,4 +1,4 @@
-use Rattle.std.proofs.Common.{◌≡◌, ◌+◌, drop}
+use Rattle.std.proofs.Common.{◌≡◌, drop}
 use Rattle.points.specs.Walks.{pairs_from}
 use Rattle.measures.specs.Length.{total_of}
 use Rattle.measures.proofs.Neighbours.{total_over}

@@ -1,4 +1,4 @@
-use Rattle.std.proofs.Common.{◌≡◌, ◌+◌, drop}
+use Rattle.std.proofs.Common.{◌≡◌, drop}
 use Rattle.points.specs.Walks.{pairs_from}
 use Rattle.measures.specs.Pieces.{told, refined}
 use Rattle.measures.proofs.Neighbours.{asked_over}
