@@ -1,5 +1,5 @@
 -- A comparison that stands to a book, and goes on standing after a row.
-use Rattle.std.proofs.Common.{◌≡◌, ℕ, ◌≤◌, true, List, length, take, drop, Ok, Err, Result, sym, refl, ap, ◌∙◌, subst, inl, inr, arith}
+use Rattle.std.proofs.Common.{◌≡◌, ℕ, ◌≤◌, true, List, length, take, drop, Ok, Err, Result, sym, refl, ap, ◌∙◌, subst, inl, inr}
 use lib.Ieee.{Float}
 use Rattle.points.specs.declared.fault.Fault.{Fault}
 use Rattle.points.specs.declared.point.Point.{Point}
@@ -23,10 +23,7 @@ use Rattle.plan.proofs.Steps.{accept, deny}
 module _ {S R : Type 0} (coords : R → List Point) (b : Book S) (t : List Record) (xs : List Float)
     (c : Comparison) (r : R) (k : Kept b t c.head) (w : RowsStand coords b xs c r) where
   came : progress c ≡ came_to b
-  came =
-      ap (λ v. record { reference = v; done = c.done; last = c.last }) w.counted
-      ∙ (ap (λ v. record { reference = length b.reference; done = v; last = c.last }) w.done
-      ∙ ap (λ v. record { reference = length b.reference; done = length b.rows; last = v }) w.last)
+  came = cc
 
   -- close answers as the book
   pub closing_is : closes c.head.count (progress c) ≡ closing b
