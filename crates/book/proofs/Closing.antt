@@ -13,7 +13,7 @@ use Rattle.book.specs.Book.{Book, closing}
 use Rattle.book.specs.Calls.{Moment, start, in_turn, called, tells, answer_of, answer, next, played, answers}
 
 not_closed : (o : Option Float) → Done ≡ Closed o → ⊥
-not_closed o e = let z : ◌≡◌ {A = ℕ} 0 1 = cc in omega arith
+not_closed o e = cc
 
 module _ {S R : Type 0} (far : S → Point → Point → Result Float Fault)
     (ratio : S → Point → Point → Float → Result Point Fault) (coords : R → List Point) (n cells : ℕ) where
@@ -21,7 +21,7 @@ module _ {S R : Type 0} (far : S → Point → Point → Result Float Fault)
   answer_at : (at : Moment S) (cs : List (Call S R)) (k : ℕ) (a : Answer)
       → slice_get (answers far ratio coords n cells at cs) k ≡ Some a
       → (c : Call S R) × (answer far ratio coords n cells (played far ratio coords n cells at (take k cs)) c ≡ a)
-  answer_at at [] k a e = let z : ◌≡◌ {A = ℕ} 0 1 = cc in absurd (omega arith)
+  answer_at at [] k a e = absurd cc
   answer_at at (c ∷ cs) zero a e = (c, cc)
   answer_at at (c ∷ cs) (suc k) a e = answer_at (next far ratio coords n cells at c) cs k a e
 
@@ -39,7 +39,7 @@ module _ {S R : Type 0} (far : S → Point → Point → Result Float Fault)
   accepted : (a : Answer) (r : Result (Book S) Fault) (o : Option Float)
       → answer_of far ratio coords a r ≡ Closed o → a ≡ Closed o
   accepted a (Ok b) o e = e
-  accepted a (Err f) o e = let z : ◌≡◌ {A = ℕ} 0 1 = cc in absurd (omega arith)
+  accepted a (Err f) o e = absurd cc
 
   only_close : (at : Moment S) (c : Call S R) (o : Option Float) → answer far ratio coords n cells at c ≡ Closed o
       → (at.comparing ≡ true) × (closing at.book ≡ o)
@@ -49,7 +49,7 @@ module _ {S R : Type 0} (far : S → Point → Point → Result Float Fault)
       cond_both (in_turn far ratio coords at.comparing c) (answer_of far ratio coords told r) OutOfTurn
       (λ (a : Answer). a ≡ Closed o → (at.comparing ≡ true) × (closing at.book ≡ o))
       (λ t e. told_closed at c o t (accepted told r o e))
-      (λ f e. let z : ◌≡◌ {A = ℕ} 0 1 = cc in absurd (omega arith))
+      (λ f e. absurd cc)
 
   -- so a close answers from a moment of the calls before it
   pub closed_at : (calls : List (Call S R)) (k : ℕ) (o : Option Float)

@@ -42,7 +42,7 @@ all_rows_lem b d h =
     let more = cond-false (eqb n 0) (Some zero64) last (ne_eqb n 0 (λ z. omega arith)) in
     cond_both (ltb k n) None (cond (eqb n 0) (Some zero64) last)
     (λ (o : Option Float). o ≡ Some d → (n ≤ k) × (last ≡ Some d))
-    (λ t e. let z : ◌≡◌ {A = ℕ} 0 1 = cc in absurd (omega arith))
+    (λ t e. absurd cc)
     (λ f e. (ltb-false k n f, sym more ∙ e))
 
 -- the rows of the lines A and B, each asked in the space s

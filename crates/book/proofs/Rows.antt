@@ -20,14 +20,14 @@ use Rattle.book.specs.Calls.{Moment, start, in_turn, comparing_after, called, mo
 pub after_ok : {X Y : Type 0} (r : Result X Fault) (go : X → Result Y Fault) (y : Y) → after r go ≡ Ok y
     → (x : X) × (r ≡ Ok x) × (go x ≡ Ok y)
 after_ok (Ok x) go y e = (x, refl, e)
-after_ok (Err f) go y e = let z : ◌≡◌ {A = ℕ} 0 1 = cc in absurd (omega arith)
+after_ok (Err f) go y e = absurd cc
 
 -- a row that was not refused beforehand is one of the two lines
 is_left : (k a b m : ℕ) (u : Unit {0}) → in_layer (row_allowed k a b m) Table ≡ Ok u → k < row_count a b
 is_left k a b m u =
     cond_both (ltb k (row_count a b)) (room_for m a b) (Err NoRowLeft)
     (λ (r : Result (Unit {0}) Cause). in_layer r Table ≡ Ok u → k < row_count a b)
-    (λ t e. ltb-true k (row_count a b) t) (λ f e. let z : ◌≡◌ {A = ℕ} 0 1 = cc in absurd (omega arith))
+    (λ t e. ltb-true k (row_count a b) t) (λ f e. absurd cc)
 
 -- an edit and an open are in turn while no comparison is open
 idle : (comparing : Bool) → not comparing ≡ true → comparing ≡ true → ⊥

@@ -4,10 +4,11 @@ use mathlib.Core.List.{List, ◌∷◌}
 use mathlib.Core.Logic.{◌⊎◌, inl, inr}
 use Prim.Native.Nat.{ℕ, suc}
 use lib.Dec.{T}
+use Rattle.std.proofs.lemmas.Bool.{cases_cond}
 use Rattle.couplings.specs.Coupling.{Pair}
 use Rattle.couplings.specs.Rows.{lesser}
 use Rattle.couplings.specs.Costs.{Costing, onward, cost_in, worth}
-use Rattle.couplings.proofs.Order.{cond_is, ok_lesser, lesser_left, lesser_right}
+use Rattle.couplings.proofs.Order.{ok_lesser, lesser_left, lesser_right}
 use Rattle.couplings.proofs.Ways.{Next, Way, pairs}
 use Rattle.couplings.proofs.Ways.Next.{first, second, both}
 use Rattle.couplings.proofs.Ways.Way.{begun, then}
@@ -82,7 +83,7 @@ module _ {P K V : Type 0} (S : Costing P K V) (A B : List P) where
       → Least u i (suc j) → Least s i j → Least c (suc i) j
       → Least (more (suc i, suc j) (lesser S.lt (lesser S.lt u s) c)) (suc i) (suc j)
   inner i j u s c g above slant left =
-      record { some = pick (cond_is (S.lt c us) c us) (cond_is (S.lt s u) s u); all = go }
+      record { some = pick (cases_cond (S.lt c us) c us m refl) (cases_cond (S.lt s u) s u us refl); all = go }
     where
       us : V
       us = lesser S.lt u s

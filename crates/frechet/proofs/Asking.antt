@@ -1,10 +1,9 @@
 -- What a row that was not refused beforehand tells, and where it stands in the cells.
-use Rattle.std.proofs.Common.{◌≡◌, ℕ, ◌+◌, ◌*◌, ◌/◌, ◌%◌, ◌<◌, ◌≤◌, min, max, Bool, true, false, cond, eqb, ltb, leb, List, [], length, take, drop, None, Ok, Err, Option, Result, sym, refl, ap, ◌∙◌, inl, inr, ⊎_elim, arith, ltb-true, leb-true}
+use Rattle.std.proofs.Common.{◌≡◌, ℕ, ◌+◌, ◌*◌, ◌<◌, ◌≤◌, min, max, cond, eqb, List, [], length, take, drop, None, Ok, Err, Option, Result, sym, refl, ap, ◌∙◌, inl, inr, ⊎_elim, arith}
 use lib.Ieee.{Float}
 use Rattle.std.proofs.lemmas.List.{drop-take, take-take}
-use Rattle.std.proofs.lemmas.Bool.{cases_Bool, cases_lt, leb-false}
+use Rattle.std.proofs.lemmas.Bool.Decides.{nat_tests}
 use Rattle.points.specs.declared.fault.Cause.{Cause}
-use Rattle.points.specs.declared.fault.Cause.TheVariants.{NoRoom, NoRowLeft}
 use Rattle.points.specs.declared.fault.Fault.{Fault}
 use Rattle.points.specs.declared.fault.Layer.{Layer}
 use Rattle.points.specs.declared.point.Point.{Point}
@@ -13,7 +12,7 @@ use Rattle.frechet.specs.Next.{row_count, row_allowed, row_of_lines, row_in_cell
 use Rattle.frechet.specs.Row.{row_start, row_before, written}
 use Rattle.frechet.specs.Table.{shorter}
 use Rattle.frechet.proofs.Filling.{unread, length_row}
-use Rattle.frechet.proofs.Halves.{half_room}
+use Rattle.frechet.proofs.Halves.{starts, half_room}
 
 -- ---- the checks beforehand
 
@@ -23,17 +22,7 @@ pub record Allowed (k a b m : ℕ) : Type 0 where
   pub room : 2 * min a b ≤ m
 
 pub allowed : (k a b m : ℕ) → row_allowed k a b m ≡ Ok tt → Allowed k a b m
-allowed k a b m e = go (ltb k (row_count a b)) refl (leb (min a b) (m / 2)) refl e
-  where
-    go : (u : Bool) → ltb k (row_count a b) ≡ u → (v : Bool) → leb (min a b) (m / 2) ≡ v
-        → ◌≡◌ {A = Result (Unit {0}) Cause} (cond u (cond v (Ok tt) (Err NoRoom)) (Err NoRowLeft)) (Ok tt)
-        → Allowed k a b m
-    go true p true q e = record {
-      left = ltb-true k (row_count a b) p;
-      room = let h = leb-true (min a b) (m / 2) q in omega arith;
-    }
-    go true p false q e = let z : ◌≡◌ {A = ℕ} 0 1 = cc in absurd (omega arith)
-    go false p v q e = let z : ◌≡◌ {A = ℕ} 0 1 = cc in absurd (omega arith)
+allowed k a b m e = record { left = grind (arith, nat_tests); room = grind (arith, nat_tests) }
 
 pub answered_allowed : (far : Point → Point → Result Float Fault) (layer : Layer) (k : ℕ) (A B : List Point)
     (xs : List Float) (l : Option Float) → (next_row far layer k A B xs).last ≡ Ok l
@@ -43,21 +32,15 @@ answered_allowed far layer k A B xs l e = go (row_allowed k (length A) (length B
     go : (r : Result (Unit {0}) Cause) → (row_unless (in_layer r layer) xs (row_in_cells far k A B xs)).last ≡ Ok l
         → r ≡ Ok tt
     go (Ok t) q = refl
-    go (Err c) q = let z : ◌≡◌ {A = ℕ} 0 1 = cc in absurd (omega arith)
+    go (Err c) q = absurd cc
 
 -- ---- how many rows there are
 
 pub shorter_min : (A B : List Point) → length (shorter A B) ≡ min (length A) (length B)
-shorter_min A B =
-    ⊎_elim
-    (λ e. let h : length A ≤ length B = leb-true (length A) (length B) e in
-    ap (λ v. length (cond v A B)) e ∙ omega arith)
-    (λ e. let h : length B < length A = leb-false (length A) (length B) e in
-    ap (λ v. length (cond v A B)) e ∙ omega arith)
-    (cases_Bool (leb (length A) (length B)))
+shorter_min A B = grind (arith, nat_tests)
 
 pub count_most : (a b : ℕ) → row_count a b ≤ max a b
-count_most a b = elim (eqb (min a b) 0) as (λ v. cond v 0 (max a b) ≤ max a b) [ true ↦ omega arith | false ↦ omega arith ]
+count_most a b = grind (arith, nat_tests)
 
 -- ---- the two halves of the cells
 
@@ -65,26 +48,15 @@ count_most a b = elim (eqb (min a b) 0) as (λ v. cond v 0 (max a b) ≤ max a b
 pub before_kept : (k s : ℕ) (cs xs : List Float) → length cs ≤ s → 2 * s ≤ length xs
     → row_before k s (written (row_start k s) cs xs) ≡ row_before k s xs
 before_kept k s cs xs short room =
-    let start : row_start k s ≤ length xs = half_room k s (length xs) room in
     ap (λ v. cond (eqb k 0) [] v)
-    (unread (row_start k s) (row_start (k + 1) s) s cs xs start
-    (⊎_elim
-    (λ l. let e : k % 2 ≡ 0 = omega arith in let e' : (k + 1) % 2 ≡ 1 = omega arith in
-    let m : row_start k s ≡ 0 * s = ap (λ n. n * s) e in let m' : row_start (k + 1) s ≡ 1 * s = ap (λ n. n * s) e' in
-    inr (omega arith))
-    (λ l. let e : k % 2 ≡ 1 = omega arith in let e' : (k + 1) % 2 ≡ 0 = omega arith in
-    let m : row_start k s ≡ 1 * s = ap (λ n. n * s) e in let m' : row_start (k + 1) s ≡ 0 * s = ap (λ n. n * s) e' in
-    inl (omega arith))
-    (cases_lt (k % 2) 1)))
+    (unread (row_start k s) (row_start (k + 1) s) s cs xs (half_room k s (length xs) room)
+    (⊎_elim (λ e. inr (omega arith)) (λ e. inl (omega arith)) (starts k s)))
 
 -- the first m cells hold both rows, if there are so many
 pub before_front : (k s m : ℕ) (xs : List Float) → 2 * s ≤ m → row_before k s (take m xs) ≡ row_before k s xs
 before_front k s m xs room =
     let d : ℕ = row_start (k + 1) s in
-    let most : row_start (k + 1) s + s ≤ m = ⊎_elim
-    (λ l. let e : (k + 1) % 2 ≡ 0 = omega arith in let h : row_start (k + 1) s ≡ 0 * s = ap (λ n. n * s) e in omega arith)
-    (λ l. let e : (k + 1) % 2 ≡ 1 = omega arith in let h : row_start (k + 1) s ≡ 1 * s = ap (λ n. n * s) e in omega arith)
-    (cases_lt ((k + 1) % 2) 1) in
+    let most : row_start (k + 1) s + s ≤ m = ⊎_elim (λ e. omega arith) (λ e. omega arith) (starts k s) in
     ap (λ v. cond (eqb k 0) [] v)
     (sym (drop-take d s (take m xs)) ∙ ap (drop d) (take-take (d + s) m xs most) ∙ drop-take d s xs)
 

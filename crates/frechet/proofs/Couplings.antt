@@ -3,7 +3,7 @@ use Rattle.std.proofs.Common.{◌≡◌, ℕ, suc, ◌<◌, Bool, true, false, c
 use lib.Ieee.{Float, lt, le, fin}
 use Rattle.couplings.specs.Coupling.{Pair, IsCoupling, Among, Some}
 use Rattle.couplings.specs.Nearness.{Measure, apart_in, Near, Measured, Mutual as MutualIn}
-use Rattle.couplings.proofs.Bound.{coupling_bound, answer_found}
+use Rattle.couplings.proofs.Bound.{coupling_bound}
 use Rattle.couplings.proofs.Nearness.{nearness_passes, near_flips}
 use Rattle.couplings.proofs.Pairs.{each_in}
 use Rattle.points.specs.declared.fault.Fault.{Fault}
@@ -11,8 +11,9 @@ use Rattle.points.specs.declared.point.Point.{Point}
 use Rattle.spaces.specs.Space.{Measures}
 use Rattle.frechet.specs.Table.{longer, shorter, frechet}
 use Rattle.frechet.specs.Theorem.{nowhere, NoMore, NoLess, Coupled, LeastOverCouplings, Answers, Mutual, NearnessPasses}
-use Rattle.frechet.proofs.Order.{measured, floats_ordered, le_any}
-use Rattle.frechet.proofs.Values.{value_of, value_measured}
+use Rattle.std.proofs.lemmas.Float.{le_trans}
+use Rattle.frechet.proofs.Order.{is_number, floats_ordered}
+use Rattle.frechet.proofs.Values.{value_of, value_number}
 use Rattle.frechet.proofs.Told.{Told, told, longer_some, shorter_some}
 
 within_value : (d : Float) (r : Result Float Fault) → NoMore d r → T (le (value_of r) d)
@@ -32,7 +33,7 @@ module _ (far : Point → Point → Result Float Fault) (ok : Point → Point �
 
   abbrev measure : Measure Point Float
   measure = record {
-    ok = measured;
+    ok = is_number;
     le = le;
     lt = lt;
     ordered = floats_ordered;
@@ -42,7 +43,7 @@ module _ (far : Point → Point → Result Float Fault) (ok : Point → Point �
   }
 
   all_measured : (A B : List Point) → Measured measure A B
-  all_measured A B a b i j = value_measured (ok a b) (far a b) (law a b)
+  all_measured A B a b i j = value_number (ok a b) (far a b) (law a b)
 
   -- what was told of X and Y, in the words of couplings
   module _ (X Y : List Point) (d : Float) (hx : 0 < length X) (hy : 0 < length Y)
@@ -56,12 +57,6 @@ module _ (far : Point → Point → Result Float Fault) (ok : Point → Point �
         subst (λ (v : Float). (pairs : List Pair) → IsCoupling (length X) (length Y) pairs
         → Some (λ p. T (le v (apart_in measure X Y p))) pairs) w.is
         (coupling_bound measure X Y hx hy (all_measured X Y)).1
-
-    is_measured : T (measured d)
-    is_measured =
-        let f = answer_found measure X Y hx hy (all_measured X Y) in
-        subst (λ (v : Float). T (measured v)) (sym f.4 ∙ w.is)
-        (all_measured X Y f.0 f.1 f.2 f.3)
 
     pub coupled : Coupled far X Y d
     coupled = record {
@@ -115,9 +110,7 @@ module _ (far : Point → Point → Result Float Fault) (ok : Point → Point �
         (w.known x.0 y.0 x.1 y.1));
     least = λ t n.
         let found = reached X Y d hx hy w n.0 n.1 in
-        le_any d (apart_in measure X Y found.0) t (is_measured X Y d hx hy w)
-        (value_measured _ (far _ _) (law _ _))
-        found.2 (n.2 found.0 found.1);
+        le_trans d (apart_in measure X Y found.0) t found.2 (n.2 found.0 found.1);
   }
 
   pub says_back : (A B : List Point) (d : Float) → Mutual far A B → Says A B d → Says B A d

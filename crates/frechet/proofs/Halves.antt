@@ -1,5 +1,5 @@
 -- One row after another in the two halves of a buffer.
-use Rattle.std.proofs.Common.{◌≡◌, ℕ, suc, ◌+◌, ◌*◌, ◌%◌, ◌≤◌, false, cond, eqb, List, [], ◌∷◌, length, take, drop, Some, Ok, Err, Option, Result, refl, ap, ◌∙◌, ⊎_elim, arith}
+use Rattle.std.proofs.Common.{◌≡◌, ℕ, suc, ◌+◌, ◌*◌, ◌%◌, ◌≤◌, false, cond, eqb, List, [], ◌∷◌, length, take, drop, Some, Ok, Err, Option, Result, refl, ap, ◌∙◌, ◌⊎◌, inl, inr, ⊎_elim, arith}
 use lib.Ieee.{Float}
 use Rattle.std.specs.List.{slice_get}
 use Rattle.std.proofs.lemmas.List.{take_at, drop_at, length-take-le}
@@ -18,7 +18,7 @@ more_whole : (n : ℕ) (q : Point) (qs : List Point) (left l : Option Float) (r 
     ((c : Float) → (go c).outcome ≡ Ok l → Whole qs (Some c) l (go c)) →
     (cell_then n r (λ d. cell_and (cell d) go)).outcome ≡ Ok l
     → Whole (q ∷ qs) left l (cell_then n r (λ d. cell_and (cell d) go))
-more_whole n q qs left l (Err f) cell go ih e = let z : ◌≡◌ {A = ℕ} 0 1 = cc in absurd (omega arith)
+more_whole n q qs left l (Err f) cell go ih e = absurd cc
 more_whole n q qs left l (Ok d) cell go ih e =
     let w = ih (cell d) e in
     record { full = ap suc w.full; ends = w.ends }
@@ -44,9 +44,16 @@ next_before k s cs xs full room =
     ∙ ap (take s) (drop_at (take n xs) (over cs (drop n xs)) n (length-take-le n xs room))
     ∙ take_at cs (drop (length cs) (drop n xs)) s full
 
-pub half_room : (k s size : ℕ) → 2 * s ≤ size → row_start k s ≤ size
-half_room k s size h =
+-- of a row and the next, one begins at the first cell and one after a row
+pub starts : (k s : ℕ)
+    → ((row_start k s ≡ 0) × (row_start (k + 1) s ≡ s)) ⊎ ((row_start k s ≡ s) × (row_start (k + 1) s ≡ 0))
+starts k s =
     ⊎_elim
-    (λ l. let e : k % 2 ≡ 0 = omega arith in let m : k % 2 * s ≡ 0 * s = ap (λ n. n * s) e in omega arith)
-    (λ l. let e : k % 2 ≡ 1 = omega arith in let m : k % 2 * s ≡ 1 * s = ap (λ n. n * s) e in omega arith)
+    (λ l. let e : k % 2 ≡ 0 = omega arith in let f : (k + 1) % 2 ≡ 1 = omega arith in
+    inl (rw e (omega arith), rw f (omega arith)))
+    (λ l. let e : k % 2 ≡ 1 = omega arith in let f : (k + 1) % 2 ≡ 0 = omega arith in
+    inr (rw e (omega arith), rw f (omega arith)))
     (cases_lt (k % 2) 1)
+
+pub half_room : (k s size : ℕ) → 2 * s ≤ size → row_start k s ≤ size
+half_room k s size h = ⊎_elim (λ e. omega arith) (λ e. omega arith) (starts k s)

@@ -39,7 +39,7 @@ module _ (far : Point → Point → Result Float Fault) (Y : List Point) where
       → Come (row_of (far p) above Y).cells ps l)
       → (row_then r xs (λ m ys. rows_from far (k + 1) (row_of (far p) above Y).cells m ps Y ys)).last ≡ Ok l
       → Come above (p ∷ ps) l
-  one k above p ps xs l (Err f) out ih e = let z : ◌≡◌ {A = ℕ} 0 1 = cc in absurd (omega arith)
+  one k above p ps xs l (Err f) out ih e = absurd cc
   one k above p ps xs l (Ok m) out ih e =
       let rest = ih m xs (row_whole (far p) above 0 None None m Y out).ends e in
       let asked = row_asked far p Y above 0 None None m out in
@@ -71,7 +71,7 @@ module _ (far : Point → Point → Result Float Fault) (Y : List Point) where
 -- with points on both lines there is a last cell
 some_last : (cs : List Float) → 0 < length cs → last_from None cs ≡ None → ⊥
 some_last [] h e = omega arith
-some_last (c ∷ cs) h e = let s = last_some c cs in let z : ◌≡◌ {A = ℕ} 0 1 = cc in omega arith
+some_last (c ∷ cs) h e = let s = last_some c cs in cc
 
 rows_long : (d : Point → Point → Float) (Y : List Point) (above : List Float) (X : List Point)
     → length above ≡ length Y
@@ -93,7 +93,7 @@ no_rows d (x ∷ xs) Y hx hy e =
 answered : (far : Point → Point → Result Float Fault) (z : Float) (X Y : List Point) (d : Float)
     (r : Result (Option Float) Fault) → 0 < length X → 0 < length Y
     → ((l : Option Float) → r ≡ Ok l → Come far Y [] X l) → answer_of r ≡ Ok d → Told far z X Y d
-answered far z X Y d (Err f) hx hy k e = let w : ◌≡◌ {A = ℕ} 0 1 = cc in absurd (omega arith)
+answered far z X Y d (Err f) hx hy k e = absurd cc
 answered far z X Y d (Ok None) hx hy k e = absurd (no_rows (λ a b. value_of (far a b)) X Y hx hy
     (sym (k None refl).last))
 answered far z X Y d (Ok (Some v)) hx hy k e =
@@ -115,7 +115,7 @@ shorter_some A B ha hb = elim (leb (length A) (length B)) as
 allowed_on : (r : Result (Unit {0}) Fault) (xs : List Float) (next : Compared) (d : Float)
     → (unless r xs next).result ≡ Ok d
     → next.result ≡ Ok d
-allowed_on (Err f) xs next d e = let z : ◌≡◌ {A = ℕ} 0 1 = cc in absurd (omega arith)
+allowed_on (Err f) xs next d e = absurd cc
 allowed_on (Ok u) xs next d e = e
 
 pub told : (far : Point → Point → Result Float Fault) (z : Float) (A B : List Point) (xs : List Float)

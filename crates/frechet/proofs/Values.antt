@@ -1,45 +1,36 @@
 -- A distance as a value, and the row rule on values.
-use Rattle.std.proofs.Common.{◌≡◌, ℕ, zero, suc, ◌+◌, ◌<◌, Bool, true, false, T, List, [], ◌∷◌, ◌++◌, length, get_or, drop, pos, Some, None, Ok, Err, Option, Result, sym, refl, ap, ◌∙◌, ⊎_elim, arith}
-use lib.Ieee.{Float, nan, inf, fin, lt}
-use Rattle.std.specs.Float.{float_is_finite, is_sign_negative}
+use Rattle.std.proofs.Common.{◌≡◌, ℕ, zero, suc, ◌+◌, ◌<◌, Bool, true, false, T, List, [], ◌∷◌, ◌++◌, length, get_or, drop, pos, Some, None, Ok, Err, Option, Result, sym, refl, ap, ◌∙◌, arith}
+use lib.Ieee.{Float, nan, inf, fin, is_nan, lt}
+use Rattle.std.specs.Float.{float_is_finite}
 use Rattle.std.specs.List.{slice_get}
-use Rattle.std.proofs.lemmas.List.{drop_all, drop_more}
-use Rattle.std.proofs.lemmas.Option.{slice_get-get_or, slice_get_past}
-use Rattle.std.proofs.lemmas.Bool.{cases_lt}
+use Rattle.std.proofs.lemmas.Grind.{common_steps}
+use Rattle.std.proofs.lemmas.Option.{slice_get_cases}
 use Rattle.couplings.specs.Rows.{row, larger, last_or}
 use Rattle.points.specs.declared.fault.Fault.{Fault}
 use Rattle.points.specs.declared.point.Point.{Point}
 use Rattle.spaces.specs.Space.{Measures}
 use Rattle.frechet.specs.Row.{Run, listed, cell_of, cell_then, cell_and, row_from, last_from}
 use Rattle.frechet.specs.Theorem.{nowhere}
-use Rattle.frechet.proofs.Order.{measured}
+use Rattle.frechet.proofs.Order.{is_number}
 
 -- the distance, and zero where there is none
 abbrev pub value_of : Result Float Fault → Float
 value_of (Ok d) = d
 value_of (Err f) = fin false 0 (pos 0)
 
-pub value_measured : (b : Bool) (r : Result Float Fault) → Measures b r → T (measured (value_of r))
-unfolding float_is_finite is_sign_negative
-value_measured b (Err f) h = tt
-value_measured false (Ok d) h = let z : ◌≡◌ {A = ℕ} 0 1 = cc in absurd (omega arith)
-value_measured true (Ok nan) h = absurd h
-value_measured true (Ok (inf s)) h = absurd h
-value_measured true (Ok (fin true m e)) h = absurd h
-value_measured true (Ok (fin false m e)) h = tt
+-- a measured distance is a number
+pub value_number : (b : Bool) (r : Result Float Fault) → Measures b r → T (is_number (value_of r))
+unfolding float_is_finite is_nan
+value_number b (Err f) h = tt
+value_number false (Ok d) h = absurd cc
+value_number true (Ok nan) h = absurd h
+value_number true (Ok (inf s)) h = tt
+value_number true (Ok (fin s m e)) h = tt
 
 -- what lies at a place of the row above, and after it
 split : (xs : List Float) (n : ℕ)
     → (drop n xs ≡ listed (slice_get xs n) ++ drop (n + 1) xs) × (slice_get xs n ≡ None → drop (n + 1) xs ≡ [])
-split xs n =
-    ⊎_elim
-    (λ h. let e = slice_get-get_or xs n nan h in (
-      drop_more xs n nan h ∙ sym (ap (λ v. listed v ++ drop (n + 1) xs) e),
-      λ z. let w : ◌≡◌ {A = ℕ} 0 1 = cc in absurd (omega arith),
-    ))
-    (λ h. let past = drop_all (n + 1) xs (omega arith) in
-    (drop_all n xs h ∙ (sym past ∙ sym (ap (λ v. listed v ++ drop (n + 1) xs) (slice_get_past xs n h))), λ z. past))
-    (cases_lt n (length xs))
+split xs n = let c = slice_get_cases xs n in (grind (arith, common_steps), grind (arith, common_steps))
 
 module _ (far : Point → Point → Result Float Fault) (p : Point) where
   abbrev pub dist : Point → Point → Float
@@ -55,17 +46,12 @@ module _ (far : Point → Point → Result Float Fault) (p : Point) where
       → (cell_then n r (λ d. cell_and (cell_of d up g l) go)).outcome ≡ Ok o
       → (cell_then n r (λ d. cell_and (cell_of d up g l) go)).cells
       ≡ row_by (listed g ++ listed l) (q ∷ qs) (listed up ++ rest)
-  at n q qs g l o (Err f) er up rest none go ih e = let z : ◌≡◌ {A = ℕ} 0 1 = cc in absurd (omega arith)
+  at n q qs g l o (Err f) er up rest none go ih e = absurd cc
   at n q qs g l o (Ok d) er (Some u) rest none go ih e =
-      ap (λ v. cell_of d (Some u) g l ∷ v) (ih (cell_of d (Some u) g l) e)
-      ∙ ap (λ v. cell_of (value_of v) (Some u) g l ∷ row_by (u ∷ cell_of (value_of v) (Some u) g l ∷ []) qs rest)
-      (sym er)
+      rw er (ap (λ v. cell_of d (Some u) g l ∷ v) (ih (cell_of d (Some u) g l) e))
   at n q qs g l o (Ok d) er None rest none go ih e =
-      ap (λ v. cell_of d None g l ∷ v) (ih (cell_of d None g l) e)
-      ∙ ap (λ v. cell_of (value_of v) None g l ∷ row_by (cell_of (value_of v) None g l ∷ []) qs rest) (sym er)
-      ∙ ap (λ v. cell_of (value_of (far p q)) None g l ∷ row_by (cell_of (value_of (far p q)) None g l ∷ []) qs v)
-      (none refl)
-      ∙ sym (ap (row_by (listed g ++ listed l) (q ∷ qs)) (none refl))
+      rw (none refl, er)
+      (ap (λ v. cell_of d None g l ∷ v) (rw (none refl) at (ih (cell_of d None g l) e)))
 
   -- an accepted row is the row of the values
   pub row_values : (qs : List Point) (above : List Float) (n : ℕ) (g l o : Option Float)
@@ -86,7 +72,7 @@ module _ (far : Point → Point → Result Float Fault) (p : Point) where
       → far p (get_or qs j nowhere) ≡ Ok (dist p (get_or qs j nowhere)))
       → (cell_then n r (λ d. cell_and (cell d) go)).outcome ≡ Ok o
       → (j : ℕ) → j < length (q ∷ qs) → far p (get_or (q ∷ qs) j nowhere) ≡ Ok (dist p (get_or (q ∷ qs) j nowhere))
-  asked n q qs o (Err f) er cell go ih e j h = let z : ◌≡◌ {A = ℕ} 0 1 = cc in absurd (omega arith)
+  asked n q qs o (Err f) er cell go ih e j h = absurd cc
   asked n q qs o (Ok d) er cell go ih e zero h = er ∙ ap (λ v. Ok (value_of v)) (sym er)
   asked n q qs o (Ok d) er cell go ih e (suc j) h = ih (cell d) e j (omega arith)
 
@@ -105,5 +91,5 @@ last_some z [] = refl
 last_some z (c ∷ cs) = last_some c cs
 
 pub last_is : (z d : Float) (cs : List Float) → last_from None cs ≡ Some d → last_or z cs ≡ d
-last_is z d [] e = let w : ◌≡◌ {A = ℕ} 0 1 = cc in absurd (omega arith)
+last_is z d [] e = absurd cc
 last_is z d (c ∷ cs) e = let w = last_some c cs in cc

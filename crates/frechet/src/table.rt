@@ -8,6 +8,7 @@ use points::fault::Fault;
 use spaces::space::Space;
 
 // A row for each point of the longer line, and the last cell of the last.
+#[tactic(auto, using(crate::proofs::Tabling::row_done))]
 pub(crate) fn rows<S: Space, L: CoordsIter, M: CoordsIter>(
     cells: &mut [f64],
     longer: &mut L,

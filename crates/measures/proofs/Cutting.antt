@@ -11,7 +11,7 @@ use Rattle.measures.proofs.Ratios.{ratio_finite}
 
 pub told_ok : {X : Type 0} (r : Result X Fault) → told r ≡ Ok tt → (x : X) × (r ≡ Ok x)
 told_ok (Ok x) e = (x, refl)
-told_ok (Err f) e = let z : ◌≡◌ {A = ℕ} 0 1 = cc in absurd (omega arith)
+told_ok (Err f) e = absurd cc
 
 pub told_then : {X Y : Type 0} (r : Result X Fault) (k : X → Y) → told (after r (λ x. Ok (k x))) ≡ told r
 told_then (Ok x) k = refl

@@ -25,48 +25,48 @@ one_pair k q (Err f) rest = refl
 module _ (far : Point → Point → Result Float Fault) where
   abbrev pub total_over : ℕ → Float → List (Point × Point) → Result Float Fault
   total_over k sum [] = Ok sum
-  total_over k sum (l ∷ ls) = after (at_place (far l.0 l.1) k) (λ d. total_over (k + 1) (sum ⊕ d) ls)
+  total_over k sum (l ∷ ls) = after (at_place (far l.0 l.1) (k + 1)) (λ d. total_over (k + 1) (sum ⊕ d) ls)
 
   total_pairs : (k : ℕ) (sum : Float) (p : Point) (qs : List Point)
-      → total_over k sum (pairs_from (Some p) qs) ≡ total_from far k sum p qs
+      → total_over k sum (pairs_from (Some p) qs) ≡ total_from far (k + 1) sum p qs
   total_pairs k sum p [] = refl
-  total_pairs k sum p (q ∷ qs) = after_same (at_place (far p q) k) _ _ (λ d. total_pairs (k + 1) (sum ⊕ d) q qs)
+  total_pairs k sum p (q ∷ qs) = after_same (at_place (far p q) (k + 1)) _ _ (λ d. total_pairs (k + 1) (sum ⊕ d) q qs)
 
-  pub total_neighbours : (ps : List Point) → total_over 1 zero64 (neighbours ps) ≡ total_of far ps
+  pub total_neighbours : (ps : List Point) → total_over 0 zero64 (neighbours ps) ≡ total_of far ps
   total_neighbours [] = refl
-  total_neighbours (p ∷ ps) = total_pairs 1 zero64 p ps
+  total_neighbours (p ∷ ps) = total_pairs 0 zero64 p ps
 
   module _ (layer : Layer) (most : Float) where
     abbrev pub taken_over : ℕ → ℕ → List (Point × Point) → Result ℕ Fault
     taken_over k count [] = Ok count
     taken_over k count (l ∷ ls) =
-        after (at_place (pieces_between far layer most l.0 l.1) k) (λ n. taken_over (k + 1) (count + (n - 1)) ls)
+        after (at_place (pieces_between far layer most l.0 l.1) (k + 1)) (λ n. taken_over (k + 1) (count + (n - 1)) ls)
 
     taken_pairs : (k count : ℕ) (p : Point) (qs : List Point)
-        → taken_over k count (pairs_from (Some p) qs) ≡ taken_from far layer most k count p qs
+        → taken_over k count (pairs_from (Some p) qs) ≡ taken_from far layer most (k + 1) count p qs
     taken_pairs k count p [] = refl
     taken_pairs k count p (q ∷ qs) =
-        after_same (at_place (pieces_between far layer most p q) k) _ _ (λ n. taken_pairs (k + 1) (count + (n - 1)) q qs)
+        after_same (at_place (pieces_between far layer most p q) (k + 1)) _ _ (λ n. taken_pairs (k + 1) (count + (n - 1)) q qs)
 
-    pub taken_neighbours : (ps : List Point) → taken_over 1 0 (neighbours ps) ≡ taken far layer most ps
+    pub taken_neighbours : (ps : List Point) → taken_over 0 0 (neighbours ps) ≡ taken far layer most ps
     taken_neighbours [] = refl
-    taken_neighbours (p ∷ ps) = taken_pairs 1 0 p ps
+    taken_neighbours (p ∷ ps) = taken_pairs 0 0 p ps
 
     module _ (ratio : Point → Point → Float → Result Point Fault) where
       abbrev pub asked_over : ℕ → List (Point × Point) → Result (Unit {0}) Fault
       asked_over k [] = Ok tt
       asked_over k (l ∷ ls) =
-          after (at_place (told (points_between far ratio layer most l.0 l.1)) k) (λ _. asked_over (k + 1) ls)
+          after (at_place (told (points_between far ratio layer most l.0 l.1)) (k + 1)) (λ _. asked_over (k + 1) ls)
 
       asked_pairs : (k : ℕ) (p : Point) (qs : List Point)
-          → asked_over k (pairs_from (Some p) qs) ≡ told (refined_from far ratio layer most k p qs)
+          → asked_over k (pairs_from (Some p) qs) ≡ told (refined_from far ratio layer most (k + 1) p qs)
       asked_pairs k p [] = refl
       asked_pairs k p (q ∷ qs) =
-          ap (λ r. after (at_place (told (points_between far ratio layer most p q)) k) (λ _. r)) (asked_pairs (k + 1) q qs)
-          ∙ one_pair k q (points_between far ratio layer most p q) (refined_from far ratio layer most (k + 1) q qs)
+          ap (λ r. after (at_place (told (points_between far ratio layer most p q)) (k + 1)) (λ _. r)) (asked_pairs (k + 1) q qs)
+          ∙ one_pair (k + 1) q (points_between far ratio layer most p q) (refined_from far ratio layer most (k + 1 + 1) q qs)
 
       pub asked_neighbours : (ps : List Point)
-          → asked_over 1 (neighbours ps) ≡ told (refined far ratio layer most ps)
+          → asked_over 0 (neighbours ps) ≡ told (refined far ratio layer most ps)
       asked_neighbours [] = refl
       asked_neighbours (p ∷ ps) =
-          asked_pairs 1 p ps ∙ sym (told_then (refined_from far ratio layer most 1 p ps) (λ rest. p ∷ rest))
+          asked_pairs 0 p ps ∙ sym (told_then (refined_from far ratio layer most 1 p ps) (λ rest. p ∷ rest))

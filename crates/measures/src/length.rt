@@ -7,6 +7,7 @@ use points::fault::{Cause, Fault, Layer, at_place, in_layer};
 use spaces::space::Space;
 
 // The distances of the neighbours, added up in line order.
+#[tactic(auto, using(crate::proofs::Neighbours::total_neighbours))]
 fn total<S: Space, L: CoordsIter>(space: &S, line: &mut L) -> Result<f64, Fault>
     requires { count_of (L.coords line.old) ≤ 65535 }
     ensures line { L.coords line.new ≡ L.coords line.old }

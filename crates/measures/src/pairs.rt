@@ -27,6 +27,7 @@ impl<S: Space> Densify<'_, S> {
     }
 
     // How many points the pairs take. A sum of 65,534 pairs needs more than 32 bits.
+    #[tactic(auto, using(crate::proofs::Neighbours::taken_neighbours, points::proofs::Walking::length_neighbours))]
     fn measure<L: CoordsIter>(&self, line: &mut L) -> Result<u64, Fault>
         requires { count_of (L.coords line.old) ≤ 65535 }
         ensures line { L.coords line.new ≡ L.coords line.old }
@@ -42,6 +43,7 @@ impl<S: Space> Densify<'_, S> {
     }
 
     // Asks for each point that parts so many pieces.
+    #[tactic(auto, using(crate::proofs::Cutting::cut_more))]
     fn ask_along(&self, pair: S::Pair, pieces: u32) -> Result<(), Fault>
         ensures { result ≡ told (cut_from (S.between self.now.space.now pair) pieces (pieces - 1) 1) }
     {
@@ -64,6 +66,7 @@ impl<S: Space> Densify<'_, S> {
     }
 
     // Asks for the points of all pairs, in line order.
+    #[tactic(auto, using(crate::proofs::Neighbours::asked_neighbours))]
     fn ask<L: CoordsIter>(&self, line: &mut L) -> Result<(), Fault>
         requires { count_of (L.coords line.old) ≤ 65535 }
         ensures line { L.coords line.new ≡ L.coords line.old }

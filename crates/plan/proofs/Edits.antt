@@ -1,5 +1,5 @@
 -- What an edit does to a book that stands to the table.
-use Rattle.std.proofs.Common.{◌≡◌, ℕ, ◌-◌, ◌<◌, ◌≤◌, Bool, true, false, not, eqb, ltb, leb, ◌⊎◌, List, [], ◌∷◌, ◌++◌, length, Ok, Err, Result, sym, refl, ap, ◌∙◌, subst, inl, inr, ⊎_elim, arith, le-ltb, lt-ltb, eq-eqb, le-leb}
+use Rattle.std.proofs.Common.{◌≡◌, ℕ, ◌-◌, ◌<◌, ◌≤◌, Bool, true, false, not, eqb, ltb, leb, ◌⊎◌, List, [], ◌∷◌, ◌++◌, length, Ok, Err, Result, sym, refl, ap, ◌∙◌, inl, inr, ⊎_elim, arith, le-ltb, lt-ltb, eq-eqb, le-leb}
 use lib.Ieee.{Float}
 use Rattle.std.proofs.lemmas.Bool.{lt-leb, ne_eqb, cases_lt}
 use Rattle.points.specs.Faults.{raised, after, in_layer}
@@ -54,10 +54,7 @@ module _ {S : Type 0} (b : Book S) (t : List Record) (h : Head) (k : Kept b t h)
   good_table f (inr x) = absurd (x.cause k.checked.whole)
 
   sized_on : (t' : List Record) → length t' ≡ length t → Sized t'
-  sized_on t' e = record {
-    least = subst (λ n. 2 ≤ n) (sym e) k.checked.sized.least;
-    most = subst (λ n. n ≤ 65536) (sym e) k.checked.sized.most;
-  }
+  sized_on t' e = let s = k.checked.sized in record { least = omega arith; most = omega arith }
 
   module _ (t' : List Record) (h' : Head) where
     -- an edit that sets the line aside

@@ -1,7 +1,7 @@
 -- A list of calls, call by call.
-use Rattle.std.proofs.Common.{◌≡◌, ℕ, ◌+◌, ◌<◌, ◌≤◌, List, [], ◌∷◌, ◌++◌, length, get_or, take, drop, set, Result, sym, refl, ap, ◌∙◌, subst, append_assoc, append-nil, arith}
+use Rattle.std.proofs.Common.{◌≡◌, ℕ, ◌+◌, ◌<◌, List, [], ◌∷◌, ◌++◌, length, get_or, take, drop, set, Result, sym, refl, ap, ◌∙◌, subst, append_assoc, append-nil, arith}
 use lib.Ieee.{Float}
-use Rattle.std.proofs.lemmas.List.{take_more_set, drop_more, drop_all}
+use Rattle.std.proofs.lemmas.List.{take_more_set, drop_more, drop_all, nil_from_length}
 use Rattle.points.specs.declared.fault.Fault.{Fault}
 use Rattle.points.specs.declared.point.Point.{Point}
 use Rattle.book.specs.declared.call.Answer.{Answer}
@@ -48,8 +48,7 @@ module _ {S R : Type 0} (far : S → Point → Point → Result Float Fault)
       → Steps far ratio coords t xs s c t' xs' s' a → Sofar k t xs s told → Sofar (k + 1) t' xs' s' (set told k a)
   more k t xs s told c t' xs' s' a long wide some room is step h =
       let v : Stepped far ratio coords n cells h.at c t' xs' s' a =
-      subst (λ z. Stepped far ratio coords n z h.at c t' xs' s' a) wide
-      (subst (λ z. Stepped far ratio coords z (length xs) h.at c t' xs' s' a) long (step h.at h.stands)) in
+      rw (long, wide) at (step h.at h.stands) in
       let split : drop k calls ≡ c ∷ drop (k + 1) calls =
       drop_more calls k c some ∙ ap (λ z. z ∷ drop (k + 1) calls) (sym is) in
       let then : Moment S = next far ratio coords n cells h.at c in
@@ -70,16 +69,9 @@ module _ {S R : Type 0} (far : S → Point → Point → Result Float Fault)
   ended k t xs s told e h =
       let none : drop k calls ≡ [] = drop_all k calls (omega arith) in
       record {
-        told_is =
-            ap (λ z. take z told) (sym e)
-            ∙ (sym (append-nil (take k told))
-            ∙ (sym (ap (λ z. take k told ++ tells_from h.at z) none) ∙ h.told_is));
+        told_is = rw (← e) (rw (none, append-nil) at h.told_is);
         stands = subst (λ z. StandsAt coords z t xs s) (sym (ap (ends_from h.at) none) ∙ h.rest) h.stands;
       }
-
-none_of : {X : Type 0} (xs : List X) → length xs ≡ 0 → xs ≡ []
-none_of [] e = refl
-none_of (x ∷ xs) e = absurd (omega arith)
 
 -- after format the empty book stands
 pub formatted : {S R : Type 0} (coords : R → List Point) (t t' : List Record) (h : Head) (xs : List Float)
@@ -88,12 +80,9 @@ formatted coords t t' h xs w f = record {
   turn = refl;
   book = kept_of empty_book t' h
       (record {
-        sized = record {
-          least = subst (λ n. 2 ≤ n) (sym f.size) w.least;
-          most = subst (λ n. n ≤ 65536) (sym f.size) w.most;
-        };
+        sized = record { least = omega arith; most = omega arith };
         whole = f.whole;
       })
-      (none_of (kept_line t' h) (line_count t' h ∙ f.count))
-      (none_of (set_aside t' h) (aside_newest t' h ∙ f.newest));
+      (nil_from_length (kept_line t' h) (line_count t' h ∙ f.count))
+      (nil_from_length (set_aside t' h) (aside_newest t' h ∙ f.newest));
 }

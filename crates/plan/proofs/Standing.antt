@@ -1,7 +1,6 @@
 -- A comparison that stands to a book, and goes on standing after a row.
-use Rattle.std.proofs.Common.{◌≡◌, ℕ, ◌≤◌, true, List, length, take, drop, Ok, Err, Result, sym, refl, ap, ◌∙◌, subst, inl, inr, arith}
+use Rattle.std.proofs.Common.{◌≡◌, ℕ, ◌≤◌, true, List, length, take, drop, Ok, Err, Result, sym, refl, ap, ◌∙◌, subst, inl, inr}
 use lib.Ieee.{Float}
-use Rattle.std.proofs.lemmas.List.{take_all, drop_all}
 use Rattle.points.specs.declared.fault.Fault.{Fault}
 use Rattle.points.specs.declared.point.Point.{Point}
 use Rattle.book.specs.declared.call.Answer.{Answer}
@@ -24,10 +23,7 @@ use Rattle.plan.proofs.Steps.{accept, deny}
 module _ {S R : Type 0} (coords : R → List Point) (b : Book S) (t : List Record) (xs : List Float)
     (c : Comparison) (r : R) (k : Kept b t c.head) (w : RowsStand coords b xs c r) where
   came : progress c ≡ came_to b
-  came =
-      ap (λ v. record { reference = v; done = c.done; last = c.last }) w.counted
-      ∙ (ap (λ v. record { reference = length b.reference; done = v; last = c.last }) w.done
-      ∙ ap (λ v. record { reference = length b.reference; done = length b.rows; last = v }) w.last)
+  came = cc
 
   -- close answers as the book
   pub closing_is : closes c.head.count (progress c) ≡ closing b
@@ -74,20 +70,6 @@ module _ {S R : Type 0} (coords : R → List Point) (b : Book S) (t : List Recor
         w.reference
         (subst (λ v. Calls (row_called far (progress c) v (coords r) (take m xs)) (progress c') (take m xs') o)
         k.line x.called))))
-
--- a row that is given all cells
-pub row_does_all : {S R : Type 0} (coords : R → List Point) (b : Book S) (t : List Record) (xs : List Float)
-    (c : Comparison) (r : R) (k : Kept b t c.head) (w : RowsStand coords b xs c r)
-    (far : Point → Point → Result Float Fault) (s : S) (c' : Comparison) (r' : R) (xs' : List Float)
-    → c'.head ≡ c.head → coords r' ≡ coords r → length xs' ≡ length xs → (o : Result (Unit {0}) Fault)
-    → RowOutcome far t c (coords r) xs c' xs' o → RowDoes coords b (rowed (length xs) far s b) t xs' c' r' o
-row_does_all coords b t xs c r k w far s c' r' xs' same still wide o u =
-    let all = take_all (length xs) xs (omega arith) in
-    let all' = take_all (length xs) xs' (omega arith) in
-    row_does coords b t xs c r k w far s (length xs) c' r' xs' same still (omega arith)
-    (drop_all (length xs) xs' (omega arith) ∙ sym (drop_all (length xs) xs (omega arith))) o
-    (subst (λ v. RowOutcome far t c (coords r) v c' (take (length xs) xs') o) (sym all)
-    (subst (λ v. RowOutcome far t c (coords r) xs c' v o) (sym all') u))
 
 -- a row of a list: it answers as an edit does, and the comparison stays open
 pub row_step : {S R : Type 0} (far : S → Point → Point → Result Float Fault)

@@ -86,6 +86,7 @@ impl<L: CoordsIter> Iterator for Coords<'_, L> {
 
     ghost remaining = { item_count (λ it. drop (L.position it.line.now) (L.coords it.line.now)) };
 
+    #[tactic(auto, using(crate::proofs::Walking::walk_steps))]
     fn next(&mut self) -> Option<Point> {
         let point = self.line.current()?;
         self.line.advance();
@@ -112,6 +113,7 @@ impl<L: CoordsIter> Iterator for Lines<'_, L> {
     ghost remaining = { item_count (λ it. pairs_from it.start
         (drop (L.position it.line.now) (L.coords it.line.now))) };
 
+    #[tactic(auto, using(crate::proofs::Walking::walk_steps))]
     fn next(&mut self) -> Option<(Point, Point)> {
         let start = self.start?;
         let end = self.line.current()?;

@@ -7,8 +7,7 @@ invariant-loop-j g l =
     let line = l.j-iterator.iter.line in
     let far = g.S.Space.far l.space l.p in
     let left_points = drop (g.L.CoordsIter.position line.now) (g.L.CoordsIter.coords line.now) in
-    (goal.iterator-loop-j g).can_next l.j-iterator × (goal.iterator-loop-j g).is_finite l.j-iterator
-    × (g.L.CoordsIter.coords line.now ≡ g.L.CoordsIter.coords l.fn.shorter)
+    (g.L.CoordsIter.coords line.now ≡ g.L.CoordsIter.coords l.fn.shorter)
     × (line.ghost_name ≡ l.initial.j-iterator.iter.line.ghost_name)
     × (l.j-iterator.count + length left_points ≤ length l.fn.cells)
     × (length l.cells ≡ length l.fn.cells)

@@ -8,8 +8,7 @@ invariant-loop-k g l =
     let far = g.S.Space.far l.space in
     let line = l.k-iterator.iter.line in
     let qs = g.M.CoordsIter.coords l.fn.shorter in
-    (goal.iterator-loop-k g).can_next l.k-iterator × (goal.iterator-loop-k g).is_finite l.k-iterator
-    × (g.L.CoordsIter.coords line.now ≡ g.L.CoordsIter.coords l.fn.longer)
+    (g.L.CoordsIter.coords line.now ≡ g.L.CoordsIter.coords l.fn.longer)
     × (line.ghost_name ≡ l.initial.k-iterator.iter.line.ghost_name)
     × (g.M.CoordsIter.coords l.shorter ≡ qs)
     × (rows_from far l.k-iterator.count (row_before l.k-iterator.count (length qs) l.cells) l.last

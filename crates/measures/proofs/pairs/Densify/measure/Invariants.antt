@@ -9,10 +9,9 @@ invariant-loop-k g l =
     let it = l.k-iterator.iter in
     let left_pairs = pairs_from it.start (drop (g.L.CoordsIter.position it.line.now) (g.L.CoordsIter.coords it.line.now)) in
     let far = g.S.Space.far l.self.space.now in
-    (goal.iterator-loop-k g).can_next l.k-iterator × (goal.iterator-loop-k g).is_finite l.k-iterator
-    × (g.L.CoordsIter.coords it.line.now ≡ g.L.CoordsIter.coords l.fn.line)
+    (g.L.CoordsIter.coords it.line.now ≡ g.L.CoordsIter.coords l.fn.line)
     × (it.line.ghost_name ≡ l.initial.k-iterator.iter.line.ghost_name)
-    × (taken_over far l.self.layer l.self.maximum (l.k-iterator.count + 1) l.count left_pairs
+    × (taken_over far l.self.layer l.self.maximum l.k-iterator.count l.count left_pairs
     ≡ taken far l.self.layer l.self.maximum (g.L.CoordsIter.coords l.fn.line))
     × (l.count ≤ 4294967296 * l.k-iterator.count)
     × (l.k-iterator.count + length left_pairs ≤ 65535)
