@@ -9,34 +9,43 @@ use points::fault::{Cause, Fault, Layer, at_place, in_layer};
 use points::point::Point;
 use spaces::space::Space;
 
-// How a line is densified: in which space, with pieces of at most which length, and by the call of which layer.
+// How a line is densified: in which space, and with pieces of at most which length. The layer is that of the call.
 #[derive_where(Clone, Copy)]
 pub struct Densify<'a, S> {
     pub space: &'a S,
     pub maximum: f64,
-    pub layer: Layer,
+}
+
+fn check_room(count: u64, room: u64, layer: Layer) -> Result<(), Fault>
+    ensures { result ≡ room_for count room layer }
+{
+    if count <= room {
+        Ok(())
+    } else {
+        Err(Fault::new(Cause::NoRoom, layer))
+    }
 }
 
 impl<S: Space> Densify<'_, S> {
     // How many pieces the stretch between two neighbours is cut into.
-    pub fn pieces_between(&self, start: Point, end: Point) -> Result<u32, Fault>
-        ensures { result ≡ pieces_between (S.far self.now.space.now) self.now.layer self.now.maximum start end }
+    pub fn pieces_between(&self, start: Point, end: Point, layer: Layer) -> Result<u32, Fault>
+        ensures { result ≡ pieces_between (S.far self.now.space.now) layer self.now.maximum start end }
     {
         let distance = self.space.distance(start, end)?;
-        in_layer(pieces(distance, self.maximum), self.layer)
+        in_layer(pieces(distance, self.maximum), layer)
     }
 
     // How many points the pairs take. A sum of 65,534 pairs needs more than 32 bits.
     #[tactic(auto, using(crate::proofs::Neighbours::taken_neighbours, points::proofs::Walking::length_neighbours))]
-    fn measure<L: CoordsIter>(&self, line: &mut L) -> Result<u64, Fault>
+    fn measure<L: CoordsIter>(&self, line: &mut L, layer: Layer) -> Result<u64, Fault>
         requires { count_of (L.coords line.old) ≤ 65535 }
         ensures line { L.coords line.new ≡ L.coords line.old }
-        ensures count { result ≡ taken (S.far self.now.space.now) self.now.layer self.now.maximum
+        ensures count { result ≡ taken (S.far self.now.space.now) layer self.now.maximum
             (L.coords line.old) }
     {
         let mut count = 0;
         for (k, (start, end)) in line.lines_iter().enumerate() {
-            let pieces = at_place(self.pieces_between(start, end), k + 1)?;
+            let pieces = at_place(self.pieces_between(start, end, layer), k + 1)?;
             count += points_within(pieces) as u64;
         }
         Ok(count)
@@ -54,11 +63,11 @@ impl<S: Space> Densify<'_, S> {
     }
 
     // A pair is prepared once, and only where a point is asked for.
-    fn ask_pair(&self, start: Point, end: Point) -> Result<(), Fault>
+    fn ask_pair(&self, start: Point, end: Point, layer: Layer) -> Result<(), Fault>
         ensures { result ≡ told (points_between (S.far self.now.space.now) (S.ratio self.now.space.now)
-            self.now.layer self.now.maximum start end) }
+            layer self.now.maximum start end) }
     {
-        let pieces = self.pieces_between(start, end)?;
+        let pieces = self.pieces_between(start, end, layer)?;
         if pieces < 2 {
             return Ok(());
         }
@@ -67,37 +76,32 @@ impl<S: Space> Densify<'_, S> {
 
     // Asks for the points of all pairs, in line order.
     #[tactic(auto, using(crate::proofs::Neighbours::asked_neighbours))]
-    fn ask<L: CoordsIter>(&self, line: &mut L) -> Result<(), Fault>
+    fn ask<L: CoordsIter>(&self, line: &mut L, layer: Layer) -> Result<(), Fault>
         requires { count_of (L.coords line.old) ≤ 65535 }
         ensures line { L.coords line.new ≡ L.coords line.old }
         ensures points { result ≡ told (refined (S.far self.now.space.now) (S.ratio self.now.space.now)
-            self.now.layer self.now.maximum (L.coords line.old)) }
+            layer self.now.maximum (L.coords line.old)) }
     {
         for (k, (start, end)) in line.lines_iter().enumerate() {
-            at_place(self.ask_pair(start, end), k + 1)?;
+            at_place(self.ask_pair(start, end, layer), k + 1)?;
         }
         Ok(())
     }
 
-    fn check_room(&self, count: u64, room: u64) -> Result<(), Fault>
-        ensures { result ≡ room_for count room self.now.layer }
-    {
-        if count <= room {
-            Ok(())
-        } else {
-            Err(Fault::new(Cause::NoRoom, self.layer))
-        }
-    }
-
     // Whether the line can be densified with room for so many points. Every point is asked for, and none is kept.
-    pub fn ask_line<L: CoordsIter>(&self, line: &mut L, room: u64) -> Result<(), Fault>
+    pub fn ask_line<L: CoordsIter>(
+        &self,
+        line: &mut L,
+        room: u64,
+        layer: Layer,
+    ) -> Result<(), Fault>
         ensures line { L.coords line.new ≡ L.coords line.old }
         ensures points { result ≡ told (densified_by (S.far self.now.space.now) (S.ratio self.now.space.now)
-            self.now.layer self.now.maximum room (L.coords line.old)) }
+            layer self.now.maximum room (L.coords line.old)) }
     {
-        in_layer(given_count(line), self.layer)?;
-        let count = self.measure(line)?;
-        self.check_room(count, room)?;
-        self.ask(line)
+        in_layer(given_count(line), layer)?;
+        let count = self.measure(line, layer)?;
+        check_room(count, room, layer)?;
+        self.ask(line, layer)
     }
 }

@@ -8,25 +8,26 @@ ghost use Rattle.table.specs.Lines.{kept_line};
 ghost use Rattle.table.specs.Whole.{free_count};
 
 use crate::kept::KeptLine;
-use crate::weave::{Cut, weave};
+use crate::weave::weave;
 use crate::{Head, Record};
+use measures::pairs::Densify;
 use measures::pieces::check_maximum;
 use points::fault::{Fault, Layer, in_layer};
 use spaces::space::Space;
 
 impl KeptLine<'_, '_> {
     // Measures the pairs, counts the free records and asks for the points.
-    fn ask_points<S: Space>(&self, cut: &Cut<S>) -> Result<(), Fault>
+    fn ask_points<S: Space>(&self, cut: &Densify<S>) -> Result<(), Fault>
         ensures { result ≡ told (densified (S.far cut.now.space.now) (S.ratio cut.now.space.now) Table cut.now.maximum
             (free_count self.now.table.now self.now.head.now)
             (kept_line self.now.table.now self.now.head.now)) }
     {
         let room = self.free_count() as u64;
-        cut.densify().ask_line(&mut self.points(), room)
+        cut.ask_line(&mut self.points(), room, Layer::Table)
     }
 
     // What a densify refuses.
-    fn ask<S: Space>(&self, cut: &Cut<S>) -> Result<(), Fault>
+    fn ask<S: Space>(&self, cut: &Densify<S>) -> Result<(), Fault>
         ensures { result ≡ told (outcome (S.far cut.now.space.now) (S.ratio cut.now.space.now) cut.now.maximum
             self.now.table.now self.now.head.now) }
     {
@@ -52,7 +53,7 @@ pub fn densify<S: Space>(
           table.old head.old f table.new head.new
     ] }
 {
-    let cut = Cut { space, maximum };
+    let cut = Densify { space, maximum };
     KeptLine::new(table, head)?.ask(&cut)?;
     weave(table, head, &cut);
     Ok(())

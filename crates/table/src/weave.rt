@@ -2,7 +2,6 @@
 ghost use Rattle.std.specs.Prelude.{◌≡◌, ◌<◌};
 ghost use Rattle.measures.specs.Pieces.{ratio_of};
 ghost use Rattle.points.specs.Limits.{last_edit};
-ghost use Rattle.points.specs.declared.fault.Layer.TheVariants.{Table};
 ghost use Rattle.table.specs.Weave.{pair_for, part_of, pieces_in, parts_in, Enough, Woven};
 ghost use Rattle.table.specs.Whole.{Checked};
 
@@ -17,56 +16,36 @@ use spaces::space::Space;
 // Every point was asked for before, so none is refused: what stands for a refused one is never written.
 const ORIGIN: Point = Point { x: 0.0, y: 0.0 };
 
-// How the stretches between neighbours are cut: in this space, into pieces of at most `maximum`.
-#[derive(Clone, Copy)]
-pub(crate) struct Cut<'a, S> {
-    pub(crate) space: &'a S,
-    pub(crate) maximum: f64,
+fn count_pieces<S: Space>(cut: &Densify<S>, start: Point, end: Point) -> u32
+    ensures { result ≡ pieces_in (S.far cut.now.space.now) cut.now.maximum start end }
+{
+    cut.pieces_between(start, end, Layer::Table).unwrap_or(0)
 }
 
-impl<'a, S: Space> Cut<'a, S> {
-    // The same, by a call that takes a table.
-    pub(crate) fn densify(&self) -> Densify<'a, S>
-        ensures { result ≡ record { space = self.now.space; maximum = self.now.maximum; layer = Table } }
-    {
-        Densify {
-            space: self.space,
-            maximum: self.maximum,
-            layer: Layer::Table,
-        }
+// A pair is prepared once, and only where a point is to be written.
+fn prepare<S: Space>(cut: &Densify<S>, start: Point, end: Point, pieces: u32) -> Option<S::Pair>
+    ensures { result ≡ pair_for (S.paired cut.now.space.now start end) pieces }
+{
+    if pieces < 2 {
+        None
+    } else {
+        cut.space.pair(start, end).ok()
     }
+}
 
-    fn count_pieces(&self, start: Point, end: Point) -> u32
-        ensures { result ≡ pieces_in (S.far self.now.space.now) self.now.maximum start end }
-    {
-        self.densify().pieces_between(start, end).unwrap_or(0)
-    }
-
-    // A pair is prepared once, and only where a point is to be written.
-    fn prepare(&self, start: Point, end: Point, pieces: u32) -> Option<S::Pair>
-        ensures { result ≡ pair_for (S.paired self.now.space.now start end) pieces }
-    {
-        if pieces < 2 {
-            None
-        } else {
-            self.space.pair(start, end).ok()
-        }
-    }
-
-    // Point `k` of so many pieces.
-    fn part(&self, pair: Option<S::Pair>, k: u32, pieces: u32) -> Point
-        ensures { result ≡ part_of (S.between self.now.space.now) pair (ratio_of k pieces) }
-    {
-        pair.map_or(ORIGIN, |pair| {
-            self.space
-                .point_at_ratio(pair, ratio_of(k, pieces))
-                .unwrap_or(ORIGIN)
-        })
-    }
+// Point `k` of so many pieces.
+fn part<S: Space>(cut: &Densify<S>, pair: Option<S::Pair>, k: u32, pieces: u32) -> Point
+    ensures { result ≡ part_of (S.between cut.now.space.now) pair (ratio_of k pieces) }
+{
+    pair.map_or(ORIGIN, |pair| {
+        cut.space
+            .point_at_ratio(pair, ratio_of(k, pieces))
+            .unwrap_or(ORIGIN)
+    })
 }
 
 // The pairs of a line that has a point.
-fn weave_pairs<S: Space>(table: &mut [Record], head: &mut Head, cut: &Cut<S>)
+fn weave_pairs<S: Space>(table: &mut [Record], head: &mut Head, cut: &Densify<S>)
     requires checked { Checked table.old head.old }
     requires left { head.old.newest < last_edit }
     requires some { 0 < head.old.count }
@@ -84,10 +63,10 @@ fn weave_pairs<S: Space>(table: &mut [Record], head: &mut Head, cut: &Cut<S>)
     cursor.step();
     for _ in 0..pairs {
         let end = Point::from(cursor.record());
-        let pieces = cut.count_pieces(start, end);
-        let pair = cut.prepare(start, end, pieces);
+        let pieces = count_pieces(cut, start, end);
+        let pair = prepare(cut, start, end, pieces);
         for k in 1..pieces {
-            cursor.insert(cut.part(pair, k, pieces), edit);
+            cursor.insert(part(cut, pair, k, pieces), edit);
         }
         cursor.step();
         start = end;
@@ -95,7 +74,7 @@ fn weave_pairs<S: Space>(table: &mut [Record], head: &mut Head, cut: &Cut<S>)
     head.newest = edit;
 }
 
-pub(crate) fn weave<S: Space>(table: &mut [Record], head: &mut Head, cut: &Cut<S>)
+pub(crate) fn weave<S: Space>(table: &mut [Record], head: &mut Head, cut: &Densify<S>)
     requires checked { Checked table.old head.old }
     requires left { head.old.newest < last_edit }
     requires room { Enough

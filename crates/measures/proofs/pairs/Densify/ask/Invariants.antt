@@ -11,6 +11,6 @@ invariant-loop-k g l =
     let ratio = g.S.Space.ratio l.self.space.now in
     (g.L.CoordsIter.coords it.line.now ≡ g.L.CoordsIter.coords l.fn.line)
     × (it.line.ghost_name ≡ l.initial.k-iterator.iter.line.ghost_name)
-    × (asked_over far l.self.layer l.self.maximum ratio l.k-iterator.count
+    × (asked_over far l.layer l.self.maximum ratio l.k-iterator.count
     (pairs_from it.start (drop (g.L.CoordsIter.position it.line.now) (g.L.CoordsIter.coords it.line.now)))
-    ≡ told (refined far ratio l.self.layer l.self.maximum (g.L.CoordsIter.coords l.fn.line)))
+    ≡ told (refined far ratio l.layer l.self.maximum (g.L.CoordsIter.coords l.fn.line)))

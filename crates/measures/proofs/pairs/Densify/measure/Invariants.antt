@@ -11,7 +11,7 @@ invariant-loop-k g l =
     let far = g.S.Space.far l.self.space.now in
     (g.L.CoordsIter.coords it.line.now ≡ g.L.CoordsIter.coords l.fn.line)
     × (it.line.ghost_name ≡ l.initial.k-iterator.iter.line.ghost_name)
-    × (taken_over far l.self.layer l.self.maximum l.k-iterator.count l.count left_pairs
-    ≡ taken far l.self.layer l.self.maximum (g.L.CoordsIter.coords l.fn.line))
+    × (taken_over far l.layer l.self.maximum l.k-iterator.count l.count left_pairs
+    ≡ taken far l.layer l.self.maximum (g.L.CoordsIter.coords l.fn.line))
     × (l.count ≤ 4294967296 * l.k-iterator.count)
     × (l.k-iterator.count + length left_pairs ≤ 65535)

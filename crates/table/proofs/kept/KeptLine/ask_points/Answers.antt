@@ -4,7 +4,7 @@ use Rattle.points.specs.declared.fault.Fault.{Fault}
 use Rattle.points.specs.declared.fault.Layer.TheVariants.{Table}
 use Rattle.points.specs.declared.point.Point.{Point}
 use Rattle.measures.specs.Pieces.{told, densified_by}
-use Rattle.table.specs.Lines.{line_from, kept_line}
+use Rattle.table.specs.Lines.{kept_line}
 use Rattle.table.specs.Whole.{free_count}
 use Rattle.table.proofs.Lines.{line_count}
 use Rattle.table.proofs.Refining.{fitting}
@@ -19,11 +19,8 @@ returns g c =
     let most = c.args.cut.now.maximum in
     let long = line_count t h in
     c.ask_line.ensures.points
-    ∙ ((λ i. told (densified_by (g.S.Space.far (c.densify.ensures i).space.now) (g.S.Space.ratio (c.densify.ensures i).space.now)
-    (c.densify.ensures i).layer (c.densify.ensures i).maximum c.free_count-room.result
-    (line_from c.points.result.table.now c.points.result.count c.points.result.first)))
     ∙ (ap (λ (ps : List Point). told (densified_by far ratio Table most c.free_count-room.result ps))
     (c.points.ensures.kept)
     ∙ (ap (λ (n : ℕ). told (densified_by far ratio Table most n (kept_line t h))) c.free_count-room.ensures
     ∙ ap told (fitting far ratio most (free_count t h) (kept_line t h)
-    (omega (arith, c.args.self.now.checked.whole.fits, c.args.self.now.checked.sized.most))))))
+    (omega (arith, c.args.self.now.checked.whole.fits, c.args.self.now.checked.sized.most)))))
