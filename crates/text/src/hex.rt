@@ -30,6 +30,28 @@ fn hex_digit(b: u8) -> Option<u8>
     }
 }
 
+// The 16 hexadecimal capitals of a number, where there is nothing to write to.
+pub fn bits_text(n: u64) -> [u8; 16]
+    ensures { result ≡ hex_text 16 n }
+{
+    let mut text = [0u8; 16];
+    let mut rest = n;
+    // The last digit is the first to be had. By index, as of what `iter_mut().rev()` writes no proof knows anything.
+    for i in (0..16usize).rev() {
+        text[i] = hex_capital((rest % 16) as u8);
+        rest /= 16;
+    }
+    text
+}
+
+// The capital of a digit.
+fn hex_capital(d: u8) -> u8
+    requires { d < 16 }
+    ensures { result ≡ hex_char d }
+{
+    if d < 10 { b'0' + d } else { b'A' + (d - 10) }
+}
+
 // A number that prints as its 16 hexadecimal capitals.
 #[derive(Clone, Copy, Debug, PartialEq, Eq)]
 pub struct Bits(pub u64);

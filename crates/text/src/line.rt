@@ -30,6 +30,20 @@ impl<'a> Line<'a> {
         })
     }
 
+    pub fn bytes(self) -> &'a [u8]
+        ensures { result.now ≡ self.entry.bytes.now }
+    {
+        let Line { bytes, .. } = self;
+        bytes
+    }
+
+    // The index in the job where the bytes begin.
+    pub fn place(self) -> usize
+        ensures { result ≡ self.entry.place }
+    {
+        self.place
+    }
+
     pub fn is_empty(self) -> bool
         ensures { IsTrue result ↔ (self.entry.bytes.now ≡ []) }
     {

@@ -18,7 +18,15 @@ impl<'a> Lines<'a> {
         ensures job { result.job.now ≡ job.now }
         ensures first { result.at ≡ 0 }
     {
-        Lines { job, at: 0 }
+        Lines::starting_at(job, 0)
+    }
+
+    // The lines from any index on; from the job's end on there are none.
+    pub fn starting_at(job: &'a [u8], at: usize) -> Lines<'a>
+        ensures job { result.job.now ≡ job.now }
+        ensures first { result.at ≡ at }
+    {
+        Lines { job, at }
     }
 }
 
