@@ -1,19 +1,16 @@
 -- The answer of a close: it is given while a comparison is open, and is what the book before the close has.
-use Rattle.std.proofs.Common.{◌≡◌, ℕ, zero, suc, true, List, [], ◌∷◌, take, Some, Ok, Err, Option, Result, arith}
+use Rattle.std.proofs.Common.{◌≡◌, ℕ, zero, suc, true, List, [], ◌∷◌, take, Some, Ok, Err, Option, Result}
 use lib.Ieee.{Float}
 use Rattle.std.proofs.lemmas.Bool.{cond_both}
 use Rattle.std.specs.List.{slice_get}
 use Rattle.points.specs.declared.fault.Fault.{Fault}
 use Rattle.points.specs.declared.point.Point.{Point}
 use Rattle.book.specs.declared.call.Answer.{Answer}
-use Rattle.book.specs.declared.call.Answer.TheVariants.{Done, Closed, OutOfTurn}
+use Rattle.book.specs.declared.call.Answer.TheVariants.{Closed, OutOfTurn}
 use Rattle.book.specs.declared.call.Call.{Call}
 use Rattle.book.specs.declared.call.Call.TheVariants.{Append, Densify, Undo, Settle, Open, Row, Close}
 use Rattle.book.specs.Book.{Book, closing}
 use Rattle.book.specs.Calls.{Moment, start, in_turn, called, tells, answer_of, answer, next, played, answers}
-
-not_closed : (o : Option Float) → Done ≡ Closed o → ⊥
-not_closed o e = cc
 
 module _ {S R : Type 0} (far : S → Point → Point → Result Float Fault)
     (ratio : S → Point → Point → Float → Result Point Fault) (coords : R → List Point) (n cells : ℕ) where
@@ -28,12 +25,12 @@ module _ {S R : Type 0} (far : S → Point → Point → Result Float Fault)
   -- only a close, and while a comparison is open, answers what the book has for it
   told_closed : (at : Moment S) (c : Call S R) (o : Option Float) → in_turn far ratio coords at.comparing c ≡ true
       → tells far ratio coords at.book c ≡ Closed o → (at.comparing ≡ true) × (closing at.book ≡ o)
-  told_closed at (Append ps) o t e = absurd (not_closed o e)
-  told_closed at (Densify s most) o t e = absurd (not_closed o e)
-  told_closed at Undo o t e = absurd (not_closed o e)
-  told_closed at Settle o t e = absurd (not_closed o e)
-  told_closed at (Open r) o t e = absurd (not_closed o e)
-  told_closed at (Row s m) o t e = absurd (not_closed o e)
+  told_closed at (Append ps) o t e = absurd cc
+  told_closed at (Densify s most) o t e = absurd cc
+  told_closed at Undo o t e = absurd cc
+  told_closed at Settle o t e = absurd cc
+  told_closed at (Open r) o t e = absurd cc
+  told_closed at (Row s m) o t e = absurd cc
   told_closed at Close o t e = (t, cc)
 
   accepted : (a : Answer) (r : Result (Book S) Fault) (o : Option Float)

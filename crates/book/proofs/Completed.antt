@@ -1,14 +1,14 @@
 -- A completed comparison: it tells that each distance was answered, and the answer of the table of the two lines.
-use Rattle.std.proofs.Common.{◌≡◌, ℕ, ◌<◌, ◌≤◌, min, max, cond, eqb, ltb, leb, List, [], ◌∷◌, length, get_or, take, Some, None, Ok, Option, Result, sym, refl, ap, ◌∙◌, subst, inl, inr, ⊎_elim, arith}
+use Rattle.std.proofs.Common.{◌≡◌, ℕ, ◌<◌, ◌≤◌, List, [], ◌∷◌, length, get_or, take, Some, None, Ok, Result, sym, refl, ap, ◌∙◌, subst, inl, inr, ⊎_elim, arith}
 use lib.Ieee.{Float, lt}
 use Rattle.std.proofs.lemmas.List.{take_all}
-use Rattle.std.proofs.lemmas.Bool.{cases_lt, cond_both, cond-false, leb-true, leb-false, ltb-false, ne_eqb}
+use Rattle.std.proofs.lemmas.Bool.{cases_lt}
+use Rattle.std.proofs.lemmas.Bool.Decides.{nat_tests}
 use Rattle.couplings.specs.Coupling.{Each}
 use Rattle.couplings.specs.Rows.{row, rows, larger, last_or}
 use Rattle.couplings.proofs.Rows.{rows_grow}
 use Rattle.points.specs.declared.fault.Fault.{Fault}
 use Rattle.points.specs.declared.point.Point.{Point}
-use Rattle.points.specs.Rounded.{zero64}
 use Rattle.frechet.specs.Row.{last_from}
 use Rattle.frechet.specs.Next.{row_count, row_of_lines}
 use Rattle.frechet.specs.Table.{longer, shorter}
@@ -25,25 +25,12 @@ use Rattle.book.proofs.Closing.{closed_at}
 -- two lines with points have a row for each point of the longer
 count_longer : (A B : List Point) → 0 < length A → 0 < length B
     → row_count (length A) (length B) ≡ length (longer A B)
-count_longer A B ha hb =
-    let a = length A in
-    let b = length B in
-    cond-false (eqb (min a b) 0) 0 (max a b) (ne_eqb (min a b) 0 (λ z. omega arith))
-    ∙ cond_both (leb a b) B A (λ (X : List Point). max a b ≡ length X)
-    (λ t. omega (arith, leb-true a b t)) (λ f. omega (arith, leb-false a b f))
+count_longer A B ha hb = grind (arith, nat_tests)
 
 -- a close that answers a distance has all its rows, and answers the last cell of the newest
 all_rows_lem : {S : Type 0} (b : Book S) (d : Float) → 0 < all_rows b → closing b ≡ Some d
     → (all_rows b ≤ length b.rows) × (last_from None (newest b.rows) ≡ Some d)
-all_rows_lem b d h =
-    let k = length b.rows in
-    let n = all_rows b in
-    let last = last_from None (newest b.rows) in
-    let more = cond-false (eqb n 0) (Some zero64) last (ne_eqb n 0 (λ z. omega arith)) in
-    cond_both (ltb k n) None (cond (eqb n 0) (Some zero64) last)
-    (λ (o : Option Float). o ≡ Some d → (n ≤ k) × (last ≡ Some d))
-    (λ t e. absurd cc)
-    (λ f e. (ltb-false k n f, sym more ∙ e))
+all_rows_lem b d h e = (grind (arith, nat_tests), grind (arith, nat_tests))
 
 -- the rows of the lines A and B, each asked in the space s
 module _ {S : Type 0} (far : S → Point → Point → Result Float Fault) (s : S) (A B : List Point)

@@ -1,16 +1,14 @@
 -- Rows by the rule: after any list of calls, the rows of the open comparison are those of its two lines.
-use Rattle.std.proofs.Common.{◌≡◌, ℕ, ◌<◌, min, Bool, true, not, ltb, List, [], ◌∷◌, length, Ok, Err, Option, Result, refl, subst, arith}
+use Rattle.std.proofs.Common.{◌≡◌, ℕ, ◌<◌, min, Bool, true, not, List, [], ◌∷◌, length, Ok, Err, Option, Result, refl, subst, arith}
 use lib.Ieee.{Float}
-use Rattle.std.proofs.lemmas.Bool.{both_ways, false≢true, not-true, ltb-true, cond_both}
-use Rattle.points.specs.declared.fault.Cause.{Cause}
-use Rattle.points.specs.declared.fault.Cause.TheVariants.{NoRowLeft}
+use Rattle.std.proofs.lemmas.Bool.{both_ways, false≢true, not-true, cond_both}
+use Rattle.std.proofs.lemmas.Bool.Decides.{nat_tests}
 use Rattle.points.specs.declared.fault.Fault.{Fault}
 use Rattle.points.specs.declared.fault.Layer.TheVariants.{Table}
 use Rattle.points.specs.declared.point.Point.{Point}
 use Rattle.points.specs.Faults.{after, in_layer}
 use Rattle.points.specs.Walks.{fits}
 use Rattle.frechet.specs.Next.{row_count, row_allowed, row_of_lines}
-use Rattle.frechet.specs.Table.{room_for}
 use Rattle.book.specs.declared.call.Call.{Call}
 use Rattle.book.specs.declared.call.Call.TheVariants.{Append, Densify, Undo, Settle, Open, Row, Close}
 use Rattle.book.specs.Book.{Asked, Book, referred, opened, newest, with_row, row_run, rowed}
@@ -24,10 +22,7 @@ after_ok (Err f) go y e = absurd cc
 
 -- a row that was not refused beforehand is one of the two lines
 is_left : (k a b m : ℕ) (u : Unit {0}) → in_layer (row_allowed k a b m) Table ≡ Ok u → k < row_count a b
-is_left k a b m u =
-    cond_both (ltb k (row_count a b)) (room_for m a b) (Err NoRowLeft)
-    (λ (r : Result (Unit {0}) Cause). in_layer r Table ≡ Ok u → k < row_count a b)
-    (λ t e. ltb-true k (row_count a b) t) (λ f e. absurd cc)
+is_left k a b m u e = grind (arith, nat_tests)
 
 -- an edit and an open are in turn while no comparison is open
 idle : (comparing : Bool) → not comparing ≡ true → comparing ≡ true → ⊥

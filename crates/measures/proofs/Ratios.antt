@@ -36,7 +36,7 @@ float_is n = refl
 
 float_value : (n : ℕ) → n < 4294967296 → HasValue (float n) false n 1
 float_value n h =
-    subst (λ (x : Float). HasValue x false n 1) (sym (float_is n)) (round_whole binary64 false n (omega arith))
+    rw (float_is n) (round_whole binary64 false n (omega arith))
 
 float_positive : (n : ℕ) → 0 < n → n < 4294967296 → T (positive (float n))
 float_positive n l h = positive_of_value (float n) n 1 (float_value n h) l
@@ -57,14 +57,10 @@ inverse : (n : ℕ) → 0 < n → n < 4294967296 → one64 ⊘ float n ≡ round
 inverse n l h =
     let y = float n in
     let cross = value→cross y n 1 (float_value n h) in
-    let turn = mul_comm (den y) n in
-    let pd = den_pos y in
+    let pos = mul-pos l (den_pos y) in
     div_is one64 y one_positive (float_positive n l h)
-    ∙ (ap (λ m. round binary64 false (m * den y) (num y * den one64)) one_num
-    ∙ (ap (λ m. round binary64 false (1 * den y) (num y * m)) one_den
-    ∙ round_same binary64 false (1 * den y) (num y * 1) 1 n
-    (subst (λ (v : ℕ). 0 < v) (sym cross) (mul-pos l pd)) l
-    (ap (λ v. v * n) (one-mul (den y)) ∙ (turn ∙ (sym cross ∙ sym (one-mul (num y * 1)))))))
+    ∙ rw (one_num, one_den)
+    (round_same binary64 false (1 * den y) (num y * 1) 1 n (omega (arith, cross, pos)) l (omega (arith, cross)))
 
 -- 1, 2^32 and its inverse
 abbrev unit : Float

@@ -1,5 +1,5 @@
 -- What a row does to a book that stands to the table and to the cells.
-use Rattle.std.proofs.Common.{◌≡◌, ℕ, suc, ◌+◌, ◌*◌, ◌≤◌, cond, List, ◌∷◌, ◌++◌, length, take, drop, None, Ok, Err, Option, Result, sym, refl, ap, ◌∙◌, subst, arith, eq-eqb}
+use Rattle.std.proofs.Common.{◌≡◌, ℕ, suc, ◌+◌, ◌*◌, ◌≤◌, cond, List, ◌∷◌, length, take, drop, None, Ok, Err, Option, Result, sym, refl, ap, ◌∙◌, subst, arith, eq-eqb}
 use lib.Ieee.{Float}
 use Rattle.std.proofs.lemmas.List.{take-append-drop, length-take-le}
 use Rattle.points.specs.Faults.{raised, after, in_layer}
@@ -57,8 +57,7 @@ module _ {S : Type 0} (far : Point → Point → Result Float Fault) (b : Book S
   long = length-take-le m xs inside
 
   whole : take m xs' ≡ take m xs → xs' ≡ xs
-  whole e = sym (take-append-drop m xs') ∙ (ap (λ v. v ++ drop m xs') e ∙ (ap (λ v. take m xs ++ v) rest
-      ∙ take-append-drop m xs))
+  whole e = let before = take-append-drop m xs in let after = take-append-drop m xs' in cc
 
   -- a row that was asked for
   module _ (ok : Allowed (length b.rows) (length b.line) (length b.reference) m) where
@@ -93,11 +92,7 @@ module _ {S : Type 0} (far : Point → Point → Result Float Fault) (b : Book S
           (row_run far b).cells,
           ap (λ v. after v (λ _. Ok (one_more b s (row_run far b).cells))) e,
           record {
-            come =
-                u.progress
-                ∙ ap (λ n. record { reference = length b.reference; done = n; last = l }) one
-                ∙ ap (λ v. record { reference = length b.reference; done = suc (length b.rows); last = v })
-                full.ends;
+            come = let last = full.ends in cc;
             cells =
                 ap (λ n. row_before n (width b) xs') (sym one)
                 ∙ sym (before_front (length b.rows + 1) (width b) m xs' room)

@@ -127,6 +127,7 @@ impl Comparison {
 
     // The next row of the kept line and the reference, in its half of the cells. A row that is refused at a cell
     // leaves the cells before it written, and is not counted.
+    #[tactic(auto, using(table::proofs::Lines::line_count))]
     pub fn row<S: Space, R: CoordsIter>(
         &mut self,
         space: &S,

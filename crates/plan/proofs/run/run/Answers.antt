@@ -1,18 +1,12 @@
-use Rattle.std.proofs.Common.{◌&&◌, length}
+use Rattle.std.proofs.Common.{◌&&◌}
 use Rattle.points.specs.declared.point.Point.{Point}
 use Rattle.book.proofs.Lawful.{coupling_law, nearness_law}
 use Rattle.plan.proofs.run.run.Goals as goal
 
-pub returns : goal.returns
-returns g c =
-    let far = g.S.Space.far in
-    let ratio = g.S.Space.ratio in
-    let coords = g.R.CoordsIter.coords in
-    let ok = λ (s : g.row.S.Denot) (p q : Point). g.S.Space.admits s p && g.S.Space.admits s q in
-    let law = g.met.S.Space.distances in
-    record {
-      book = c.run_from_format.ensures;
-      couplings = coupling_law far ratio coords ok law (length c.args.table.now)
-          (length c.args.cells.now) c.args.calls.now;
-      nearness = nearness_law far ratio coords ok law;
-    }
+pub returns-clause-couplings : goal.returns-clause-couplings
+returns-clause-couplings g c =
+    coupling_law _ _ _ (λ s (p q : Point). g.S.Space.admits s p && g.S.Space.admits s q) g.met.S.Space.distances _ _ _
+
+pub returns-clause-nearness : goal.returns-clause-nearness
+returns-clause-nearness g c =
+    nearness_law _ _ _ (λ s (p q : Point). g.S.Space.admits s p && g.S.Space.admits s q) g.met.S.Space.distances

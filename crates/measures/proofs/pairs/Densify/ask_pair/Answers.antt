@@ -5,22 +5,14 @@ use Rattle.measures.proofs.pairs.Densify.ask_pair.Goals as goal
 
 pub returns-in_err-pair : goal.returns-in_err-pair
 returns-in_err-pair g c =
-    let s = c.args.self.now.space.now in
-    let p = c.args.start in
-    let q = c.args.end in
+    let law = g.met.S.Space.pairs c.args.self.now.space.now c.args.start c.args.end in
     let fits : c.in_ok-pieces.pieces < 4294967296 = search rules in
-    let cut = cut_unpaired (g.S.Space.ratio s p q) (g.S.Space.paired s p q) (g.S.Space.between s)
-    (g.met.S.Space.pairs s p q) c.in_ok-pieces.pieces fits c.in_err-pair.field-0.0
-    (sym c.pair.ensures ∙ c.in_err-pair.was) c.if-pieces-lt2.false in
+    let cut = cut_unpaired _ _ _ law _ fits _ (sym c.pair.ensures ∙ c.in_err-pair.was) c.if-pieces-lt2.false in
     grind (arith, common_steps)
 
 pub returns : goal.returns
 returns g c =
-    let s = c.args.self.now.space.now in
-    let p = c.args.start in
-    let q = c.args.end in
+    let law = g.met.S.Space.pairs c.args.self.now.space.now c.args.start c.args.end in
     let fits : c.in_ok-pieces.pieces < 4294967296 = search rules in
-    let cut = cut_paired (g.S.Space.ratio s p q) (g.S.Space.paired s p q) (g.S.Space.between s)
-    (g.met.S.Space.pairs s p q) c.in_ok-pieces.pieces fits c.in_ok-pair.field-0
-    (sym c.pair.ensures ∙ c.in_ok-pair.was) c.if-pieces-lt2.false in
+    let cut = cut_paired _ _ _ law _ fits _ (sym c.pair.ensures ∙ c.in_ok-pair.was) c.if-pieces-lt2.false in
     grind (arith, common_steps)
