@@ -15,7 +15,7 @@ fn total<S: Space, L: CoordsIter>(space: &S, line: &mut L) -> Result<f64, Fault>
 {
     let mut sum = 0.0;
     for (k, (start, end)) in line.lines_iter().enumerate() {
-        sum = sum + at_place(space.distance(start, end), k + 1)?;
+        sum += at_place(space.distance(start, end), k + 1)?;
     }
     Ok(sum)
 }

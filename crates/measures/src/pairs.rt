@@ -1,11 +1,11 @@
 // The pairs of a line of any make, measured and asked for the points that a densify puts between them.
 ghost use Rattle.std.specs.Prelude.{◌≡◌, ◌-◌, ◌≤◌, length as count_of};
 ghost use Rattle.measures.specs.Pieces.{told, taken, cut_from, pieces_between, points_between, refined};
-ghost use Rattle.measures.specs.Pieces.{room_for, densified_by};
+ghost use Rattle.measures.specs.Pieces.{densified_by};
 
 use crate::pieces::{pieces, points_within, ratio_of};
 use points::coords::{CoordsIter, given_count};
-use points::fault::{Cause, Fault, Layer, at_place, in_layer};
+use points::fault::{Cause, Fault, Layer, at_place, ensure, in_layer};
 use points::point::Point;
 use spaces::space::Space;
 
@@ -14,16 +14,6 @@ use spaces::space::Space;
 pub struct Densify<'a, S> {
     pub space: &'a S,
     pub maximum: f64,
-}
-
-fn check_room(count: u64, room: u64, layer: Layer) -> Result<(), Fault>
-    ensures { result ≡ room_for count room layer }
-{
-    if count <= room {
-        Ok(())
-    } else {
-        Err(Fault::new(Cause::NoRoom, layer))
-    }
 }
 
 impl<S: Space> Densify<'_, S> {
@@ -35,7 +25,7 @@ impl<S: Space> Densify<'_, S> {
         in_layer(pieces(distance, self.maximum), layer)
     }
 
-    // How many points the pairs take. A sum of 65,534 pairs needs more than 32 bits.
+    // How many points the pairs take.
     #[tactic(auto, using(crate::proofs::Neighbours::taken_neighbours, points::proofs::Walking::length_neighbours))]
     fn measure<L: CoordsIter>(&self, line: &mut L, layer: Layer) -> Result<u64, Fault>
         requires { count_of (L.coords line.old) ≤ 65535 }
@@ -46,7 +36,7 @@ impl<S: Space> Densify<'_, S> {
         let mut count = 0;
         for (k, (start, end)) in line.lines_iter().enumerate() {
             let pieces = at_place(self.pieces_between(start, end, layer), k + 1)?;
-            count += points_within(pieces) as u64;
+            count += u64::from(points_within(pieces));
         }
         Ok(count)
     }
@@ -101,7 +91,7 @@ impl<S: Space> Densify<'_, S> {
     {
         in_layer(given_count(line), layer)?;
         let count = self.measure(line, layer)?;
-        check_room(count, room, layer)?;
+        ensure(count <= room, Cause::NoRoom, layer)?;
         self.ask(line, layer)
     }
 }

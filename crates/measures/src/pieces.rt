@@ -45,5 +45,5 @@ pub fn points_within(pieces: u32) -> u32
 pub fn ratio_of(k: u32, pieces: u32) -> f64
     ensures { result ≡ ratio_of k pieces }
 {
-    k as f64 * (1.0 / pieces as f64)
+    f64::from(k) * (1.0 / f64::from(pieces))
 }

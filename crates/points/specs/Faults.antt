@@ -1,5 +1,5 @@
 -- Refusals: the number of each cause, and how a fault gets its layer and its place.
-use Rattle.std.specs.Prelude.{ℕ, Ok, Err, Result}
+use Rattle.std.specs.Prelude.{ℕ, Bool, cond, Ok, Err, Result}
 use Rattle.points.specs.declared.fault.Cause.{Cause}
 use Rattle.points.specs.declared.fault.Cause.TheVariants as causes
 use Rattle.points.specs.declared.fault.Layer.{Layer}
@@ -42,6 +42,10 @@ raised c l = record { cause = c; layer = l; place = 0 }
 -- the same fault, at a place
 abbrev pub placed : ℕ → Fault → Fault
 placed n f = record { cause = f.cause; layer = f.layer; place = n }
+
+-- what does not hold is refused
+abbrev pub ensured : Bool → Cause → Layer → Result (Unit {0}) Fault
+ensured holds c l = cond holds (Ok tt) (Err (raised c l))
 
 -- a refusal by its cause alone becomes one of a layer
 abbrev pub in_layer : {X : Type 0} → Result X Cause → Layer → Result X Fault

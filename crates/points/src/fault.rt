@@ -1,6 +1,6 @@
 // Why a call was refused, which layer refused it, and where.
 ghost use Rattle.std.specs.Prelude.{◌≡◌};
-ghost use Rattle.points.specs.Faults.{number_of, raised, placed, in_layer, at_place};
+ghost use Rattle.points.specs.Faults.{number_of, raised, placed, ensured, in_layer, at_place};
 
 // The fourteen causes, each with the number that a user sees.
 #[derive(Clone, Copy, Debug, PartialEq, Eq, Hash)]
@@ -62,6 +62,17 @@ impl Fault {
         ensures { result ≡ placed place self }
     {
         Fault { place, ..self }
+    }
+}
+
+// Goes on where the condition holds.
+pub fn ensure(holds: bool, cause: Cause, layer: Layer) -> Result<(), Fault>
+    ensures { result ≡ ensured holds cause layer }
+{
+    if holds {
+        Ok(())
+    } else {
+        Err(Fault::new(cause, layer))
     }
 }
 

@@ -40,15 +40,12 @@ impl<const REVERSED: bool> CoordsIter for Walk<'_, REVERSED> {
     }
 
     fn current(&self) -> Option<Point> {
-        if self.at >= self.points.len() {
-            return None;
-        }
-        let index = if REVERSED {
-            self.points.len() - 1 - self.at
+        if REVERSED {
+            let left = self.points.len().checked_sub(self.at)?;
+            self.points[..left].last().copied()
         } else {
-            self.at
-        };
-        Some(self.points[index])
+            self.points.get(self.at).copied()
+        }
     }
 
     fn advance(&mut self) {

@@ -5,9 +5,9 @@ ghost use Rattle.spaces.specs.Plane as Plane;
 ghost use Rattle.spaces.specs.Laws.{plane_distances, plane_ratios, plane_alongs};
 ghost use Rattle.std.proofs.Common.{rules};
 
-use crate::space::{Space, distance_answer};
+use crate::space::{Space, check_finite, distance_answer};
 use hosts::host::Host;
-use points::fault::{Cause, Fault, Layer};
+use points::fault::{Cause, Fault, Layer, ensure};
 use points::point::Point;
 
 #[derive(Clone, Copy)]
@@ -32,21 +32,11 @@ fn admitted(p: Point) -> bool
 fn both_admitted(start: Point, end: Point) -> Result<(), Fault>
     ensures { result ≡ Plane.both_admitted start end }
 {
-    if admitted(start) && admitted(end) {
-        Ok(())
-    } else {
-        Err(Fault::new(Cause::NotAdmitted, Layer::Space))
-    }
-}
-
-fn finite(number: f64) -> Result<(), Fault>
-    ensures { result ≡ Plane.is_finite number }
-{
-    if number.is_finite() {
-        Ok(())
-    } else {
-        Err(Fault::new(Cause::NotFinite, Layer::Space))
-    }
+    ensure(
+        admitted(start) && admitted(end),
+        Cause::NotAdmitted,
+        Layer::Space,
+    )
 }
 
 fn point_answer(p: Point) -> Result<Point, Fault>
@@ -72,7 +62,7 @@ fn plane_pair(start: Point, end: Point) -> Result<PlanePair, Fault>
 fn on_pair(pair: PlanePair, ratio: f64) -> Result<Point, Fault>
     ensures { result ≡ Plane.between pair ratio }
 {
-    finite(ratio)?;
+    check_finite(ratio)?;
     point_answer(pair.start + pair.way * ratio)
 }
 
@@ -112,7 +102,7 @@ impl<H: Host> Space for Euclidean<H> {
         end: Point,
         ratio_from_start: f64,
     ) -> Result<Point, Fault> {
-        finite(ratio_from_start)?;
+        check_finite(ratio_from_start)?;
         on_pair(plane_pair(start, end)?, ratio_from_start)
     }
 
@@ -122,7 +112,7 @@ impl<H: Host> Space for Euclidean<H> {
         end: Point,
         distance_from_start: f64,
     ) -> Result<Point, Fault> {
-        finite(distance_from_start)?;
+        check_finite(distance_from_start)?;
         both_admitted(start, end)?;
         let diff = end - start;
         let total_distance = self.host.hypot(diff.x, diff.y)?;

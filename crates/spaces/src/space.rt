@@ -1,11 +1,14 @@
 // What the measures ask of a space.
 ghost use Rattle.std.specs.Prelude.{◌≡◌, Bool, ◌&&◌, Result, Float};
 ghost use Rattle.std.specs.Float.{float_is_finite};
+ghost use Rattle.points.specs.Faults.{ensured};
+ghost use Rattle.points.specs.declared.fault.Cause.TheVariants.{NotFinite};
 ghost use Rattle.points.specs.declared.fault.Fault.{Fault};
+ghost use Rattle.points.specs.declared.fault.Layer.TheVariants as layers;
 ghost use Rattle.points.specs.declared.point.Point.{Point};
 ghost use Rattle.spaces.specs.Space.{Measures, Lands, by_pair, distance_answer, within};
 
-use points::fault::{Cause, Fault, Layer};
+use points::fault::{Cause, Fault, Layer, ensure};
 use points::point::Point;
 
 // A space means the points that it admits and three functions, each to one result or to one refusal, alike
@@ -76,6 +79,13 @@ pub(crate) fn distance_answer(distance: f64) -> Result<f64, Fault>
     }
 }
 
+// A ratio and a distance that are asked for are finite, or refused.
+pub(crate) fn check_finite(number: f64) -> Result<(), Fault>
+    ensures { result ≡ ensured (float_is_finite number) NotFinite layers.Space }
+{
+    ensure(number.is_finite(), Cause::NotFinite, Layer::Space)
+}
+
 // Whether two points are at most `distance` apart.
 pub fn distance_within<S: Space>(
     space: &S,
@@ -85,9 +95,7 @@ pub fn distance_within<S: Space>(
 ) -> Result<bool, Fault>
     ensures { result ≡ within (S.far space.now origin destination) distance }
 {
-    if !distance.is_finite() {
-        return Err(Fault::new(Cause::NotFinite, Layer::Space));
-    }
+    check_finite(distance)?;
     let apart = space.distance(origin, destination)?;
     Ok(apart <= distance)
 }

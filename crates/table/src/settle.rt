@@ -16,6 +16,7 @@ pub fn settle(table: &mut [Record], head: &mut Head) -> Result<(), Fault>
     check(table, head)?;
     let count = head.count;
     let mut cursor = Cursor::start(table, head);
+    // No iterator lends the records, as an edit writes where it walks.
     for _ in 0..count {
         cursor.renumber(0);
     }

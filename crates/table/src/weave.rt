@@ -13,9 +13,6 @@ use points::fault::Layer;
 use points::point::Point;
 use spaces::space::Space;
 
-// Every point was asked for before, so none is refused: what stands for a refused one is never written.
-const ORIGIN: Point = Point { x: 0.0, y: 0.0 };
-
 fn count_pieces<S: Space>(cut: &Densify<S>, start: Point, end: Point) -> u32
     ensures { result ≡ pieces_in (S.far cut.now.space.now) cut.now.maximum start end }
 {
@@ -37,11 +34,9 @@ fn prepare<S: Space>(cut: &Densify<S>, start: Point, end: Point, pieces: u32) ->
 fn part<S: Space>(cut: &Densify<S>, pair: Option<S::Pair>, k: u32, pieces: u32) -> Point
     ensures { result ≡ part_of (S.between cut.now.space.now) pair (ratio_of k pieces) }
 {
-    pair.map_or(ORIGIN, |pair| {
-        cut.space
-            .point_at_ratio(pair, ratio_of(k, pieces))
-            .unwrap_or(ORIGIN)
-    })
+    // Every point was asked for before, so none is refused: what stands for a refused one is never written.
+    pair.and_then(|pair| cut.space.point_at_ratio(pair, ratio_of(k, pieces)).ok())
+        .unwrap_or_default()
 }
 
 // The pairs of a line that has a point.
@@ -61,6 +56,7 @@ fn weave_pairs<S: Space>(table: &mut [Record], head: &mut Head, cut: &Densify<S>
     let mut cursor = Cursor::start(table, head);
     let mut start = Point::from(cursor.record());
     cursor.step();
+    // No iterator lends the records, as an edit writes where it walks.
     for _ in 0..pairs {
         let end = Point::from(cursor.record());
         let pieces = count_pieces(cut, start, end);

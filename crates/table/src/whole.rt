@@ -4,7 +4,7 @@ ghost use Rattle.table.specs.Chains.{Chained, next_in_chain};
 ghost use Rattle.table.specs.Whole.{Sized, Whole, Checked, BadLength, BadTable};
 
 use crate::{FREE, Head, LAST_EDIT, MOST_RECORDS, Record};
-use points::fault::{Cause, Fault, Layer};
+use points::fault::{Cause, Fault, Layer, ensure};
 
 // Where a chain goes on behind the record, if it can be one of a chain with edit numbers from `least` to `most`.
 fn next_in_chain(table: &[Record], here: u16, least: u8, most: u8) -> Option<u16>
@@ -45,11 +45,11 @@ pub fn check_length(table: &[Record]) -> Result<(), Fault>
       | Err f ↦ BadLength table.now f
     ] }
 {
-    if (2..=MOST_RECORDS).contains(&table.len()) {
-        Ok(())
-    } else {
-        Err(Fault::new(Cause::TableLength, Layer::Table))
-    }
+    ensure(
+        (2..=MOST_RECORDS).contains(&table.len()),
+        Cause::TableLength,
+        Layer::Table,
+    )
 }
 
 // What every call on a formatted table asks first.
@@ -60,9 +60,5 @@ pub fn check(table: &[Record], head: &Head) -> Result<(), Fault>
     ] }
 {
     check_length(table)?;
-    if is_whole(table, head) {
-        Ok(())
-    } else {
-        Err(Fault::new(Cause::TableNotWhole, Layer::Table))
-    }
+    ensure(is_whole(table, head), Cause::TableNotWhole, Layer::Table)
 }

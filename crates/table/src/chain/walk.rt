@@ -43,6 +43,7 @@ impl<'a> Chain<'a> {
         ensures { result ≡ cond (nat_lt self.now.at self.now.count)
             (Some (record_at self.now.table.now self.now.here)) None }
     {
+        // Of what the closure of a `then` would give no proof knows anything here.
         if self.at < self.count {
             Some(self.table[usize::from(self.here)])
         } else {
