@@ -28,6 +28,7 @@ fn allow<A: CoordsIter, B: CoordsIter>(ls_1: &A, ls_2: &B, cells: usize) -> Resu
     room(cells, count_1, count_2)
 }
 
+// Apart from `frechet_distance`, whose theorems speak of all lines at once, and of no step of this one.
 // The longer line goes down the rows and the shorter along them, so that two rows of the shorter suffice.
 fn compare<S: Space, A: CoordsIter, B: CoordsIter>(
     space: &S,

@@ -66,10 +66,8 @@ fn row_at<S: Space, L: CoordsIter, M: CoordsIter>(
         (row_before k (length (M.CoordsIter.coords shorter.old)) cells.old)
         (M.CoordsIter.coords shorter.old)).outcome }
 {
-    match seek(longer, k) {
-        Some(p) => row(cells, k, p, shorter, space),
-        None => unreachable(),
-    }
+    let p = seek(longer, k).unwrap();
+    row(cells, k, p, shorter, space)
 }
 
 // Row k of two lines, in its half of the cells under row k - 1 in the other half, and its last cell. The fault

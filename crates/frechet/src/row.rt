@@ -27,6 +27,7 @@ fn fill<S: Space, L: CoordsIter>(
         let distance = at_place(space.distance(p, q), j + 1)?;
         let up = before.get(j).copied();
         let value = cell(distance, up, diagonal, left);
+        // By index, as of what a `zip` with `iter_mut` writes no proof knows anything.
         cells[j] = value;
         diagonal = up;
         left = Some(value);
@@ -34,7 +35,8 @@ fn fill<S: Space, L: CoordsIter>(
     Ok(left)
 }
 
-// Row k, in its half of the cells; the other half holds row k - 1.
+// Row k, in its half of the cells; the other half holds row k - 1. The room is asked of the callers, who have just
+// refused too few cells: a value that kept it would have to hold the line too, which is walked meanwhile.
 pub(crate) fn row<S: Space, L: CoordsIter>(
     cells: &mut [f64],
     k: usize,

@@ -6,7 +6,8 @@ use points::coords::{CoordsIter, given_count};
 use points::fault::{Cause, Fault, Layer, at_place, in_layer};
 use spaces::space::Space;
 
-// The distances of the neighbours, added up in line order.
+// The distances of the neighbours, added up in line order. That a place fits is asked of the callers, whom
+// `given_count` has just told, here and in a densify: a line of its own type would be walked through that type.
 #[tactic(auto, using(crate::proofs::Neighbours::total_neighbours))]
 fn total<S: Space, L: CoordsIter>(space: &S, line: &mut L) -> Result<f64, Fault>
     requires { count_of (L.coords line.old) ≤ 65535 }

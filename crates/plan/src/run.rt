@@ -7,7 +7,7 @@ use crate::state::State;
 use crate::turn::turn;
 use book::call::{Answer, Call};
 use points::coords::CoordsIter;
-use points::fault::{Cause, Fault, Layer};
+use points::fault::{Cause, Fault, Layer, ensure};
 use spaces::space::Space;
 use table::Record;
 use table::format::format;
@@ -17,7 +17,7 @@ use table::whole::check_length;
 fn play<S: Space, R: CoordsIter + Copy>(
     table: &mut [Record],
     cells: &mut [f64],
-    state: State<R>,
+    mut state: State<R>,
     calls: &[Call<S, R>],
     answers: &mut [Answer],
 ) -> State<R>
@@ -27,9 +27,9 @@ fn play<S: Space, R: CoordsIter + Copy>(
     ensures rest { drop (length calls.now) answers.new
         ≡ drop (length calls.now) answers.old }
 {
-    let mut state = state;
     for (k, call) in calls.iter().enumerate() {
         let (next, answer) = turn(table, cells, state, call);
+        // By index, as of what a `zip` with `iter_mut` writes no proof knows anything.
         answers[k] = answer;
         state = next;
     }
@@ -44,12 +44,10 @@ fn can_run(table: &[Record], calls: usize, room: usize) -> Result<(), Fault>
     ] }
 {
     check_length(table)?;
-    if room < calls {
-        return Err(Fault::new(Cause::NoRoom, Layer::Table));
-    }
-    Ok(())
+    ensure(calls <= room, Cause::NoRoom, Layer::Table)
 }
 
+// Apart from `run`, whose laws speak of all lists at once, and of no step of this one.
 fn run_from_format<S: Space, R: CoordsIter + Copy>(
     table: &mut [Record],
     cells: &mut [f64],

@@ -20,13 +20,12 @@ use table::{Head, Record};
 fn edit<S: Space, R: CoordsIter + Copy>(
     table: &mut [Record],
     cells: &[f64],
-    head: Head,
+    mut head: Head,
     call: &Call<S, R>,
 ) -> (State<R>, Answer)
     ensures { Steps S.far S.ratio R.coords table.old cells.now (State.Editing head)
         call.now table.new cells.now result.0 result.1 }
 {
-    let mut head = head;
     let answer = match call {
         Call::Append(points) => append(table, &mut head, points).into(),
         Call::Densify(space, maximum) => densify(table, &mut head, *space, *maximum).into(),
@@ -61,15 +60,15 @@ fn row_within<S: Space, R: CoordsIter>(
         comparison.new (take (min count (length cells.old)) cells.new) result }
 {
     let given = count.min(cells.len());
-    comparison.row(space, table, reference, &mut cells[0..given])
+    comparison.row(space, table, reference, &mut cells[..given])
 }
 
 // A call while a comparison is open.
 fn compare<S: Space, R: CoordsIter + Copy>(
     table: &[Record],
     cells: &mut [f64],
-    comparison: Comparison,
-    reference: R,
+    mut comparison: Comparison,
+    mut reference: R,
     call: &Call<S, R>,
 ) -> (State<R>, Answer)
     ensures { Steps S.far S.ratio R.coords table.now cells.old
@@ -78,8 +77,6 @@ fn compare<S: Space, R: CoordsIter + Copy>(
 {
     match call {
         Call::Row(space, count) => {
-            let mut comparison = comparison;
-            let mut reference = reference;
             let result = row_within(
                 &mut comparison,
                 *space,
