@@ -50,7 +50,7 @@ fn an_empty_line_answers_zero(rt: HostRuntime) {
     let mut cells = [7.0; 2];
     let one = [at(5.0, 5.0)];
     assert_eq!(rt; apart(&one, &[], &mut cells), Ok(0.0));
-    assert!(rt; cells[0] == 7.0 && cells[1] == 7.0);
+    assert_eq!(rt; cells, [7.0; 2]);
 }
 
 #[test]
@@ -61,7 +61,7 @@ fn too_few_cells_are_refused(rt: HostRuntime) {
         apart(&two, &two, &mut cells),
         Err(Fault::new(Cause::NoRoom, Layer::Line))
     );
-    assert!(rt; cells[0] == 7.0 && cells[1] == 7.0 && cells[2] == 7.0);
+    assert_eq!(rt; cells, [7.0; 3]);
 }
 
 #[test]
@@ -71,5 +71,5 @@ fn a_refused_cell_leaves_the_cells_before_it(rt: HostRuntime) {
     let three = [at(0.0, 1.0), at(1.0, 1.0), at(2.0, 1.0)];
     let refused = Fault::new(Cause::NotAdmitted, Layer::Space);
     assert_eq!(rt; apart(&two, &three, &mut cells), Err(refused.at(2)));
-    assert!(rt; cells[0] == 1.0 && cells[1] == 7.0 && cells[2] == 7.0 && cells[3] == 7.0);
+    assert_eq!(rt; cells, [1.0, 7.0, 7.0, 7.0]);
 }

@@ -40,7 +40,7 @@ fn answers_of<'a>(
     kept: &'a [Point],
     more: &'a [Point],
     reference: &'a Forward<'a>,
-) -> Option<f64> {
+) -> Result<Option<f64>, Fail> {
     let calls = [
         Call::Undo,
         Call::Append(kept),
@@ -61,18 +61,17 @@ fn answers_of<'a>(
         Call::Open(reference),
     ];
     let mut cells = [0.0; 4];
-    match run(table, &mut cells, &calls, answers) {
-        Err(_) => Some(7.0),
-        Ok(State::Editing(_)) => Some(8.0),
-        Ok(State::Comparing(comparison, _)) => {
+    match run(table, &mut cells, &calls, answers)? {
+        State::Editing(_) => Err(Fail::new("no comparison was left open")),
+        State::Comparing(comparison, _) => {
             let Closed { head: _, answer } = comparison.close();
-            answer
+            Ok(answer)
         }
     }
 }
 
 #[test]
-fn a_list_of_calls_is_answered_in_order(rt: HostRuntime) {
+fn a_list_of_calls_is_answered_in_order(rt: HostRuntime) -> Result<(), Fail> {
     let mut table = [blank(); 6];
     let mut answers = [Answer::Done; 17];
     let plane = Euclidean { host: SeriesHost };
@@ -80,7 +79,7 @@ fn a_list_of_calls_is_answered_in_order(rt: HostRuntime) {
     let more = [at(3.0, 0.0)];
     let both = [at(0.0, 0.0), at(3.0, 0.0)];
     let reference = Forward::new(&both);
-    let left = answers_of(&mut table, &mut answers, &plane, &one, &more, &reference);
+    let left = answers_of(&mut table, &mut answers, &plane, &one, &more, &reference)?;
     assert!(rt; left.is_none());
     let expected = [
         refused(Cause::NothingToUndo),
@@ -102,33 +101,32 @@ fn a_list_of_calls_is_answered_in_order(rt: HostRuntime) {
         Answer::Done,
     ];
     assert_eq!(rt; answers, expected);
+    Ok(())
 }
 
-fn kept(table: &mut [Record], points: &[Point]) -> Option<Head> {
-    let mut head = format(table).ok()?;
-    append(table, &mut head, points).ok()?;
-    Some(head)
+fn kept(table: &mut [Record], points: &[Point]) -> Result<Head, Fault> {
+    let mut head = format(table)?;
+    append(table, &mut head, points)?;
+    Ok(head)
 }
 
 #[test]
 fn a_chain_that_runs_in_a_circle_is_refused(rt: HostRuntime) -> Result<(), Fail> {
     let mut table = [blank(); 6];
     let points = [at(0.0, 0.0), at(1.0, 0.0)];
-    let Some(mut head) = kept(&mut table, &points) else {
-        return Err(Fail::new("an append was refused"));
-    };
+    let mut head = kept(&mut table, &points)?;
     table[2].next = 1;
     let circle = table;
     let refused = undo(&mut table, &mut head);
     assert!(rt; refused.is_err());
-    assert!(rt; table[2].next == circle[2].next && table[1].next == circle[1].next);
+    assert_eq!(rt; table, circle);
     match open(&table, head, &Forward::new(&points)) {
         Ok(comparison) => {
             let Closed { head: _, answer: _ } = comparison.close();
             Err(Fail::new("a circle was opened"))
         }
         Err(Refused { head, fault }) => {
-            assert!(rt; fault.cause == Cause::TableNotWhole);
+            assert_eq!(rt; fault.cause, Cause::TableNotWhole);
             assert!(rt; head.count() == 2);
             Ok(())
         }
@@ -139,9 +137,7 @@ fn a_chain_that_runs_in_a_circle_is_refused(rt: HostRuntime) -> Result<(), Fail>
 fn a_reference_of_another_count_is_refused(rt: HostRuntime) -> Result<(), Fail> {
     let mut table = [blank(); 6];
     let points = [at(0.0, 0.0), at(1.0, 0.0)];
-    let Some(head) = kept(&mut table, &points) else {
-        return Err(Fail::new("an append was refused"));
-    };
+    let head = kept(&mut table, &points)?;
     let plane = Euclidean { host: SeriesHost };
     let mut cells = [0.0; 4];
     match open(&table, head, &Forward::new(&points)) {
@@ -152,13 +148,11 @@ fn a_reference_of_another_count_is_refused(rt: HostRuntime) -> Result<(), Fail> 
             let left = comparison.rows_left();
             let Closed { head: _, answer } = comparison.close();
             assert!(rt; left == 2 && answer.is_none());
-            match row {
-                Ok(()) => Err(Fail::new("a row was accepted")),
-                Err(fault) => {
-                    assert!(rt; fault.cause == Cause::ReferenceChanged);
-                    Ok(())
-                },
-            }
+            assert_eq!(rt;
+                row.map_err(|fault| fault.cause),
+                Err(Cause::ReferenceChanged)
+            );
+            Ok(())
         }
     }
 }

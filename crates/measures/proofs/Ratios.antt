@@ -1,5 +1,5 @@
 -- The ratios of a densify are finite.
-use Rattle.std.proofs.Common.{◌≡◌, ℕ, ◌*◌, ◌<◌, true, false, T, sym, refl, ap, ◌∙◌, subst, mul_comm, mul-pos, one-mul, arith, ltb→lt, ne_eqb}
+use Rattle.std.proofs.Common.{◌≡◌, ℕ, ◌*◌, ◌<◌, true, false, T, refl, ◌∙◌, mul-pos, arith, ltb→lt, ne_eqb}
 use lib.Ieee.{Float, nan, inf, fin, binary64, le, round, units, size, odd, of_bits, of_int, mul, div}
 use lib.Ieee.Back.{round_whole}
 use lib.Ieee.Exact.{HasValue}

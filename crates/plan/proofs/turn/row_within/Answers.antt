@@ -1,4 +1,4 @@
-use Rattle.std.proofs.Common.{◌≡◌, ◌-◌, min, length, drop, refl, arith}
+use Rattle.std.proofs.Common.{◌≡◌, min, length, drop, refl, arith}
 use Rattle.std.proofs.lemmas.List.{take_at, drop_at, length-take-le}
 use Rattle.plan.proofs.turn.row_within.Goals as goal
 
@@ -7,7 +7,7 @@ pub returns : goal.returns
 returns g c =
     let xs = c.args.cells.now in
     let ys = c.row.new.cells in
-    let n = c.min-given.result - 0 in
+    let n = c.min-given.result in
     let m = min c.args.count (length xs) in
     let same : n ≡ m = omega (arith, c.min-given.ensures) in
     let long : length ys ≡ m = omega (arith, c.row.auto.cells, length-take-le n xs (omega arith)) in
