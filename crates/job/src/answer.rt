@@ -65,7 +65,8 @@ fn reference_takes(count: usize, p: Point) -> Result<(), Fault>
     }
 }
 
-// The distance of the two lines, in the Euclidean plane over the series host.
+// The distance of the two lines, in the Euclidean plane over the series host. The crate `questions` calls it too,
+// but makes the cells itself: only this one call is common, and no crate below both has that host and this distance.
 fn distance(planned: &[Point], reference: &[Point], cells: &mut [f64]) -> Result<f64, Fault>
     ensures { result ≡ plane_distance planned.now reference.now cells.old }
 {
@@ -79,10 +80,7 @@ fn distance(planned: &[Point], reference: &[Point], cells: &mut [f64]) -> Result
 fn status(heap: Global, letter: Letter, outcome: Result<(), Fault>) -> Result<String, AllocError>
     ensures { IfOk result (λ s. string_bytes s ≡ status_text letter (outcome_number outcome)) }
 {
-    let number = match outcome {
-        Ok(()) => 0,
-        Err(fault) => fault.cause.number(),
-    };
+    let number = outcome.err().map_or(0, |fault| fault.cause.number());
     status_line(heap, letter, number)
 }
 
@@ -111,7 +109,7 @@ fn add(
 fn command_of(line: Line, number: usize) -> Result<Command, Fault>
     ensures { CommandOrFault line.entry.bytes.now number result }
 {
-    read_command(line).ok_or(Fault::new(Cause::Malformed, Layer::Job).at(number))
+    read_command(line).ok_or_else(|| Fault::new(Cause::Malformed, Layer::Job).at(number))
 }
 
 impl Job {

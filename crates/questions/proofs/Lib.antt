@@ -1,3 +1,4 @@
+pub mod Mapped
 pub mod Counting
 pub mod Parting
 pub mod Held

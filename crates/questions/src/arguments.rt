@@ -63,14 +63,11 @@ fn parted_numbers(heap: Global, line: Line) -> Result<Option<(Vec<f64>, Vec<f64>
     let Some(rest) = rest.strip_prefix(b" /") else {
         return Ok(None);
     };
-    let Some(after) = numbers(heap, rest)? else {
-        return Ok(None);
-    };
-    Ok(Some((before, after)))
+    Ok(numbers(heap, rest)?.map(|after| (before, after)))
 }
 
-// The points of two lines, before a slash and after it.
-pub(crate) fn two_lines(heap: Global, line: Line) -> Result<Option<Question>, AllocError>
+// The question of the distance of two lines, whose points stand before a slash and after it.
+pub(crate) fn frechet_question(heap: Global, line: Line) -> Result<Option<Question>, AllocError>
     ensures { IfOk result (Reads asked (TwoLines line.entry.bytes.now)) }
 {
     let Some((before, after)) = parted_numbers(heap, line)? else {
@@ -79,8 +76,6 @@ pub(crate) fn two_lines(heap: Global, line: Line) -> Result<Option<Question>, Al
     let Some(ps) = points_of(heap, before.as_slice())? else {
         return Ok(None);
     };
-    let Some(qs) = points_of(heap, after.as_slice())? else {
-        return Ok(None);
-    };
-    Ok(Some(Question::Frechet(ps, qs)))
+    let qs = points_of(heap, after.as_slice())?;
+    Ok(qs.map(|qs| Question::Frechet(ps, qs)))
 }

@@ -4,7 +4,7 @@ ghost use Rattle.questions.specs.Asked.{asked};
 ghost use Rattle.questions.specs.Spelling.{Spells};
 ghost use Rattle.questions.specs.Reading.{Reads, HostCall, PlaneCall};
 
-use crate::arguments::{numbers, points_of, two_lines};
+use crate::arguments::{frechet_question, numbers, points_of};
 use crate::name::split_name;
 use crate::question::Question;
 use points::point::Point;
@@ -51,7 +51,7 @@ pub(crate) fn read_question(heap: Global, line: Line) -> Result<Option<Question>
         return Ok(None);
     };
     if family == "euclidean" && call == "frechet" {
-        return two_lines(heap, rest);
+        return frechet_question(heap, rest);
     }
     let Some(numbers) = numbers(heap, rest)? else {
         return Ok(None);

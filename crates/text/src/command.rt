@@ -17,10 +17,10 @@ pub enum Command {
 pub fn read_command(line: Line) -> Option<Command>
     ensures { MatchOption result (Unspelled line.entry.bytes.now) (CommandOf line.entry.bytes.now) }
 {
-    match line.split_word()? {
-        (Word::Letter(name, _), rest) => dispatch(name[0] as char, rest),
-        (Word::Number(..), _) => None,
-    }
+    let (Word::Letter([name], _), rest) = line.split_word()? else {
+        return None;
+    };
+    dispatch(char::from(*name), rest)
 }
 
 // The command with this letter, whose numbers are the rest of the line.

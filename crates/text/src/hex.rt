@@ -1,8 +1,10 @@
 // Numbers of 64 bits as 16 hexadecimal capitals.
-ghost use Rattle.std.specs.Prelude.{◌≡◌, ℕ, ◌^◌, ◌<◌, Some, MatchOption, ◌≢◌};
+ghost use Rattle.std.specs.Prelude.{◌≡◌, ℕ, ◌^◌, ◌<◌, Some, MatchOption, ◌≢◌, to_bits};
+ghost use Rattle.std.specs.Float.{binary64};
 ghost use Rattle.text.specs.Hex.{hex_char, hex_text};
 
 use std::fmt;
+use std::num::f64_to_bits_with_nan;
 
 // The number that 16 hexadecimal capitals spell.
 pub fn parse_bits(s: &[u8]) -> Option<u64>
@@ -55,6 +57,15 @@ fn hex_capital(d: u8) -> u8
 // A number that prints as its 16 hexadecimal capitals.
 #[derive(Clone, Copy, Debug, PartialEq, Eq)]
 pub struct Bits(pub u64);
+
+// The bits of a float, those of a NaN too.
+impl From<f64> for Bits {
+    ghost from_gives = { λ x bits. bits.0 ≡ to_bits binary64 x };
+
+    fn from(x: f64) -> Bits {
+        Bits(f64_to_bits_with_nan(x))
+    }
+}
 
 impl fmt::Display for Bits {
     ghost output = { λ bits. Some (hex_text 16 bits.0) };

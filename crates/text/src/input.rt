@@ -1,5 +1,5 @@
 // Reads a program's input into a buffer.
-ghost use Rattle.std.specs.Prelude.{◌≤◌, length, vec_len, IfOk};
+ghost use Rattle.std.specs.Prelude.{◌≡◌, ◌≤◌, length, take, vec_len, IfOk, IfSome};
 
 use std::alloc::Global;
 use std::io;
@@ -22,11 +22,13 @@ pub fn fill(input: &mut impl Read, buffer: &mut [u8]) -> io::Result<usize>
 }
 
 // The input, up to so many bytes of it.
-pub fn read_at_most(heap: Global, input: &mut impl Read, most: usize) -> io::Result<Vec<u8>>
-    ensures { IfOk result (λ v. vec_len v ≤ most) }
+pub fn read_at_most<R: Read>(heap: Global, input: &mut R, most: usize) -> io::Result<Vec<u8>>
+    ensures bound { IfOk result (λ v. vec_len v ≤ most) }
+    ensures bytes { IfOk result (λ v. IfSome (R.remaining input.old) (λ xs. v.items ≡ take most xs)) }
 {
-    let mut bytes = vec![in heap; 0u8; most]?;
-    let count = fill(input, &mut bytes)?;
-    bytes.truncate(count);
+    let mut bytes = Vec::new(heap);
+    input.take(most as u64).read_to_end(&mut bytes)?;
+    // It has no more; but what bounds an unknown reader's bytes is no clause of `read_to_end`.
+    bytes.truncate(most);
     Ok(bytes)
 }

@@ -7,6 +7,8 @@ use crate::line::Line;
 use crate::run::count_before;
 
 // The lines of a job from the index `at` on: each ends before LF, or with the job; a final LF starts none.
+// The job and an index, and no `Line` that shrinks: a step tells by them which part of the job its line is, and `at`
+// may be past the job's end.
 #[derive(Drop)]
 pub struct Lines<'a> {
     job: &'a [u8],

@@ -41,7 +41,8 @@ pub fn bits_line(heap: Global, letter: Letter, bits: u64) -> Result<String, Allo
     format!(in heap; "{letter} {bits}")
 }
 
-// The answer to a line that spells no command, with the line's number.
+// The answer to a line that spells no command, with the line's number. The printed format fixes the 14, and this
+// crate does not know the causes.
 pub fn malformed_line(heap: Global, number: usize) -> Result<String, AllocError>
     ensures { IfOk result (λ s. string_bytes s ≡ malformed_text number) }
 {

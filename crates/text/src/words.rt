@@ -2,7 +2,8 @@
 ghost use Rattle.std.specs.Prelude.{◌≡◌, length, MatchOption, ◌≢◌};
 ghost use Rattle.text.specs.Grammar.{word_bytes, word_place, WordSized};
 
-// A word of the job: its bytes, and the index where it begins.
+// A word of the job: its bytes, and the index where it begins; by a rule of the project it borrows the job's bytes
+// and keeps its place.
 #[derive(Clone, Copy, Debug)]
 pub enum Word<'a> {
     Letter(&'a [u8], usize),

@@ -13,12 +13,12 @@ returns-then-eq-2 c =
     let line = c.args.line.bytes.now in
     let name = c.in-Some.ensures in
     let rest = c.in-Some.rest.bytes.now in
-    IfOk-weaker c.two_lines.result _ _
+    IfOk-weaker c.frechet_question.result _ _
     (λ o.
     reads_as asked (TwoLines rest) (Spells line) o
     (two_spells line _ _ rest name (search rules) (search rules))
     (two_called line _ _ rest name (search rules) (search rules)))
-    c.two_lines.ensures
+    c.frechet_question.ensures
 
 pub returns-in_default-2 : goal.returns-in_default-2
 returns-in_default-2 c =

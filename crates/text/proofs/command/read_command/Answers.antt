@@ -1,16 +1,13 @@
-use Rattle.std.proofs.Common.{length, ap, subst, arith}
-use Rattle.text.specs.Grammar.{WordFirst}
-use Rattle.text.proofs.Commands.{spelled_letter}
+use Rattle.std.proofs.Common.{rules}
+use Rattle.text.proofs.Commands.{spelled_letter, number_unspelled}
 use Rattle.text.proofs.command.read_command.Goals as goal
 
-pub returns-in_err-name : goal.returns-in_err-name
-returns-in_err-name c =
+pub returns-in_err-split_word : goal.returns-in_err-split_word
+returns-in_err-split_word c =
     rw c.from_residual.ensures (λ q sized e.
-    c.in_err-name.ensures.no_letter (spelled_letter c.args.line.bytes.now q e))
+    c.in_err-split_word.ensures.no_letter (spelled_letter c.args.line.bytes.now q e))
 
-pub returns-in-Number-default : goal.returns-in-Number-default
-returns-in-Number-default c q sized e =
-    let line = c.args.line in
-    let read = c.in_ok-name.ensures.0 in
-    let word = subst (λ w. WordFirst line.bytes.now line.place w c.in_ok-name.field-0.1.bytes.now) c.in-Number-default.is-0 read in
-    omega (arith, spelled_letter line.bytes.now q e, ap length word.first, word.sized)
+pub returns-in_default-3 : goal.returns-in_default-3
+returns-in_default-3 c =
+    let read = c.in_ok-split_word.ensures.0 in
+    number_unspelled c.args.line.bytes.now _ _ _ read (search (rules, read.sized))
