@@ -7,7 +7,7 @@ ghost use Rattle.job.specs.Answer.{length_allowed, CommandOrFault, Replies, Answ
 use crate::job::Job;
 use frechet::distance::frechet_distance;
 use hosts::series::SeriesHost;
-use points::fault::{Cause, Fault, Layer};
+use points::fault::{Cause, Fault, Layer, ensure};
 use points::point::Point;
 use points::walk::Forward;
 use spaces::euclidean::Euclidean;
@@ -27,11 +27,7 @@ const MOST_REFERENCE_POINTS: usize = 1_000;
 pub fn check_length(bytes: usize) -> Result<(), Fault>
     ensures { result ≡ length_allowed bytes }
 {
-    if bytes <= LONGEST_JOB {
-        Ok(())
-    } else {
-        Err(Fault::new(Cause::Malformed, Layer::Job))
-    }
+    ensure(bytes <= LONGEST_JOB, Cause::Malformed, Layer::Job)
 }
 
 fn point_of(x: u64, y: u64) -> Point
@@ -46,11 +42,7 @@ fn point_of(x: u64, y: u64) -> Point
 fn finite(p: Point) -> Result<(), Fault>
     ensures { result ≡ finite_or_not p }
 {
-    if p.is_finite() {
-        Ok(())
-    } else {
-        Err(Fault::new(Cause::NotFinite, Layer::Line))
-    }
+    ensure(p.is_finite(), Cause::NotFinite, Layer::Line)
 }
 
 // Whether a reference of `count` points takes one more.
@@ -58,11 +50,7 @@ fn reference_takes(count: usize, p: Point) -> Result<(), Fault>
     ensures { result ≡ reference_room count p }
 {
     finite(p)?;
-    if count < MOST_REFERENCE_POINTS {
-        Ok(())
-    } else {
-        Err(Fault::new(Cause::NoRoom, Layer::Line))
-    }
+    ensure(count < MOST_REFERENCE_POINTS, Cause::NoRoom, Layer::Line)
 }
 
 // The distance of the two lines, in the Euclidean plane over the series host. The crate `questions` calls it too,
