@@ -7,6 +7,7 @@ use points::point::Point;
 use points::walk::{Backward, Forward};
 use spaces::euclidean::Euclidean;
 
+// With the example's own cells, which it looks at afterwards.
 fn apart(a: &[Point], b: &[Point], cells: &mut [f64]) -> Result<f64, Fault> {
     let plane = Euclidean { host: SeriesHost };
     frechet_distance(&plane, &mut Forward::new(a), &mut Forward::new(b), cells)

@@ -13,7 +13,7 @@ use points::fault::Fault;
 #[derive(Clone, Copy)]
 pub struct SeriesHost;
 
-// Six functions of one shape, each with a series of its own, and three with laws of their own.
+// Six of one shape, by the names that `Host` has; three carry laws of their own, so no one method serves them all.
 impl Host for SeriesHost {
     ghost meaning = { λ _. series_answer };
 

@@ -30,6 +30,7 @@ pub fn check_length(bytes: usize) -> Result<(), Fault>
     ensure(bytes <= LONGEST_JOB, Cause::Malformed, Layer::Job)
 }
 
+// By the bits and no `From`: they may be those of a NaN, which `f64::from_bits` does not take.
 fn point_of(x: u64, y: u64) -> Point
     ensures { result ≡ point_of x y }
 {
@@ -53,8 +54,8 @@ fn reference_takes(count: usize, p: Point) -> Result<(), Fault>
     ensure(count < MOST_REFERENCE_POINTS, Cause::NoRoom, Layer::Line)
 }
 
-// The distance of the two lines, in the Euclidean plane over the series host. The crate `questions` calls it too,
-// but makes the cells itself: only this one call is common, and no crate below both has that host and this distance.
+// The distance of the two lines, in the Euclidean plane over the series host. The crate `questions` has the like, for
+// lines of its own; no crate below the two has both that host and this distance.
 fn distance(planned: &[Point], reference: &[Point], cells: &mut [f64]) -> Result<f64, Fault>
     ensures { result ≡ plane_distance planned.now reference.now cells.old }
 {

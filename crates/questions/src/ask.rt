@@ -73,7 +73,7 @@ fn length_of(points: &[Point]) -> Result<f64, Fault>
     length(&plane(), &mut line)
 }
 
-// The crate `job` has the like, with the cells given: only the one call is common.
+// The crate `job` has the like, for what it keeps; no crate below the two has both that host and this distance.
 fn frechet_of(heap: Global, ps: &[Point], qs: &[Point]) -> Result<Result<f64, Fault>, AllocError>
     ensures { IfOk result (λ d. d ≡ (frechet_of far ps.now qs.now
         (cells_for ps.now qs.now)).result) }

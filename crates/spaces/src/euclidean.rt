@@ -42,11 +42,8 @@ fn both_admitted(start: Point, end: Point) -> Result<(), Fault>
 fn point_answer(p: Point) -> Result<Point, Fault>
     ensures { result ≡ Plane.point_answer p }
 {
-    if admitted(p) {
-        Ok(p)
-    } else {
-        Err(Fault::new(Cause::BadResult, Layer::Space))
-    }
+    ensure(admitted(p), Cause::BadResult, Layer::Space)?;
+    Ok(p)
 }
 
 fn plane_pair(start: Point, end: Point) -> Result<PlanePair, Fault>

@@ -72,11 +72,12 @@ pub trait Space {
 pub(crate) fn distance_answer(distance: f64) -> Result<f64, Fault>
     ensures { result ≡ distance_answer distance }
 {
-    if distance.is_finite() && 0.0 <= distance {
-        Ok(distance.abs())
-    } else {
-        Err(Fault::new(Cause::BadResult, Layer::Space))
-    }
+    ensure(
+        distance.is_finite() && 0.0 <= distance,
+        Cause::BadResult,
+        Layer::Space,
+    )?;
+    Ok(distance.abs())
 }
 
 // A ratio and a distance that are asked for are finite, or refused.

@@ -6,7 +6,7 @@ ghost use Rattle.table.specs.Append.{NotFiniteAt, AppendOk, AppendErr};
 use crate::cursor::Cursor;
 use crate::kept::KeptLine;
 use crate::{Head, Record};
-use points::fault::{Cause, Fault, Layer};
+use points::fault::{Cause, Fault, Layer, ensure};
 use points::point::Point;
 
 // Refuses the first point with a coordinate that is not finite.
@@ -38,9 +38,11 @@ pub fn append(table: &mut [Record], head: &mut Head, points: &[Point]) -> Result
     let line = KeptLine::new(table, head)?;
     check_finite(points)?;
     let edit = head.next_edit()?;
-    if points.len() > line.free_count() {
-        return Err(Fault::new(Cause::NoRoom, Layer::Table));
-    }
+    ensure(
+        points.len() <= line.free_count(),
+        Cause::NoRoom,
+        Layer::Table,
+    )?;
     let mut cursor = Cursor::end(table, head);
     for point in points {
         cursor.insert(*point, edit);

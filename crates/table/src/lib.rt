@@ -41,7 +41,8 @@ pub struct Record {
 }
 
 // Where the line and the free records of a table begin, how many points the line has, and the number of its
-// newest edit. Only `format` makes one, and it cannot be copied: there is one head to a table.
+// newest edit. Only `format` makes one, and it cannot be copied: there is one head to a table. A call takes the two
+// apart, since the table is the caller's memory, and a comparison takes the head alone.
 #[derive(Drop)]
 pub struct Head {
     first: u16,

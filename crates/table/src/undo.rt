@@ -5,7 +5,7 @@ ghost use Rattle.table.specs.Undo.{UndoOk, UndoErr};
 use crate::cursor::Cursor;
 use crate::whole::check;
 use crate::{Head, Record};
-use points::fault::{Cause, Fault, Layer};
+use points::fault::{Cause, Fault, Layer, ensure};
 
 pub fn undo(table: &mut [Record], head: &mut Head) -> Result<(), Fault>
     ensures { elim result [
@@ -15,9 +15,7 @@ pub fn undo(table: &mut [Record], head: &mut Head) -> Result<(), Fault>
 {
     check(table, head)?;
     let newest = head.newest;
-    if newest == 0 {
-        return Err(Fault::new(Cause::NothingToUndo, Layer::Table));
-    }
+    ensure(newest > 0, Cause::NothingToUndo, Layer::Table)?;
     let count = head.count;
     let mut cursor = Cursor::start(table, head);
     // No iterator lends the records, as an edit writes where it walks.

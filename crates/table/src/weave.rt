@@ -39,7 +39,8 @@ fn part<S: Space>(cut: &Densify<S>, pair: Option<S::Pair>, k: u32, pieces: u32) 
         .unwrap_or_default()
 }
 
-// The pairs of a line that has a point.
+// The pairs of a line that has a point: the second pass, by the rule of `Densify::ask_pair`, which wrote nothing, so
+// that a refusal changes nothing.
 fn weave_pairs<S: Space>(table: &mut [Record], head: &mut Head, cut: &Densify<S>)
     requires checked { Checked table.old head.old }
     requires left { head.old.newest < last_edit }

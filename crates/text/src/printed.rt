@@ -26,7 +26,7 @@ impl fmt::Display for Letter {
     }
 }
 
-// The letter, a space, and a number: 0 or that of a refusal, whose causes this crate does not know.
+// The letter, a space, and a number: 0 or that of a refusal, as the job's printed format has it.
 pub fn status_line(heap: Global, letter: Letter, number: u8) -> Result<String, AllocError>
     ensures { IfOk result (λ s. string_bytes s ≡ status_text letter number) }
 {

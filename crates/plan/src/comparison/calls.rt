@@ -103,7 +103,7 @@ impl Comparison {
         self.last = last;
     }
 
-    // The next row, with the kept line as any line.
+    // The next row, with the kept line as any line, whose count the head keeps in 16 bits.
     fn row_of<S: Space, K: CoordsIter, R: CoordsIter>(
         &mut self,
         space: &S,

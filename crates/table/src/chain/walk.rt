@@ -43,7 +43,7 @@ impl<'a> Chain<'a> {
         ensures { result ≡ cond (nat_lt self.now.at self.now.count)
             (Some (record_at self.now.table.now self.now.here)) None }
     {
-        // Of what the closure of a `then` would give no proof knows anything here.
+        // Of what the closure of a `then` or of a `filter` gives the proofs knew too little.
         if self.at < self.count {
             Some(self.table[usize::from(self.here)])
         } else {

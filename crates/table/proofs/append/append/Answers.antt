@@ -1,4 +1,5 @@
-use Rattle.std.proofs.Common.{◌+◌, get_or, drop, length, refl, ap, ◌∙◌, arith, rules}
+use Rattle.std.proofs.Common.{◌+◌, get_or, drop, length, sym, refl, ap, ◌∙◌, arith, rules, leb-true}
+use Rattle.points.proofs.Placing.{ensured_holds}
 use lib.Ieee.{nan}
 use Rattle.std.proofs.lemmas.List.{drop_more, drop_all}
 use Rattle.points.specs.declared.point.Point.{Point}
@@ -17,11 +18,12 @@ loop-point-init c =
     let e = c.end-cursor.ensures in
     let checked = c.in_ok-line.ensures.checked in
     let same = c.in_ok-line.ensures.same in
+    let room = leb-true _ _ (ensured_holds _ _ _ (sym c.ensure.ensures ∙ c.in_ok-ensure.was)) in
     record {
       same = (refl, refl);
       here = e.here;
       appending = appending.append_at t0 h0 ps _ _ _ _
-          (appending.append_start t0 h0 ps _ checked.whole (omega (arith, c.free_count.ensures, ap length same.0, ap (λ h. h.count) same.1)) (e.before checked)) _ _ _ _ e.table e.head refl refl;
+          (appending.append_start t0 h0 ps _ checked.whole (omega (arith, room, c.free_count.ensures, ap length same.0, ap (λ h. h.count) same.1)) (e.before checked)) _ _ _ _ e.table e.head refl refl;
     }
 
 pub insert-requires : goal.insert-requires
@@ -64,7 +66,8 @@ returns c =
     let ps = c.args.points.now in
     let edit = c.in_ok-edit.ensures.number in
     let same = c.in_ok-line.ensures.same in
+    let room = leb-true _ _ (ensured_holds _ _ _ (sym c.ensure.ensures ∙ c.in_ok-ensure.was)) in
     appending.append_ok t0 h0 ps _ _ _ _ c.loop-point.invariant.appending
     (drop_all c.loop-point.point-index ps (omega arith)) c.in_ok-line.ensures.checked c.in_ok-check_finite.ensures
-    edit.left (omega (arith, c.free_count.ensures, ap length same.0, ap (λ h. h.count) same.1)) _ _ _ _ _ (search rules) (search rules) (search rules)
+    edit.left (omega (arith, room, c.free_count.ensures, ap length same.0, ap (λ h. h.count) same.1)) _ _ _ _ _ (search rules) (search rules) (search rules)
     (search rules) edit.next

@@ -1,4 +1,5 @@
-use Rattle.std.proofs.Common.{sym, refl, ap, ◌∙◌, arith, rules}
+use Rattle.std.proofs.Common.{sym, refl, ap, ◌∙◌, arith, rules, ltb-true}
+use Rattle.points.proofs.Placing.{ensured_holds}
 use Rattle.table.proofs.Undoing as undoing
 use Rattle.table.proofs.undo.undo.Goals as goal
 use Rattle.table.proofs.undo.undo.Goals.{then-record-newest, else-record-newest}
@@ -57,5 +58,6 @@ loop-preserved c =
 
 pub returns : goal.returns
 returns c =
+    let some = ltb-true _ _ (ensured_holds _ _ _ (sym c.ensure.ensures ∙ c.in_ok-ensure.was)) in
     undoing.undo_ok c.args.table.now c.args.head.now _ _ _ _ _ c.loop.invariant.undoing (omega arith)
-    (omega arith) c.in_ok-check.ensures _ _ _ _ (search rules) (search rules) (search rules) (search rules)
+    (omega (arith, some)) c.in_ok-check.ensures _ _ _ _ (search rules) (search rules) (search rules) (search rules)
