@@ -13,7 +13,7 @@ const LONGEST_INPUT: usize = 1_000_000;
 
 fn run(rt: &HostRuntime, text: &[u8]) -> io::Result<()> {
     for line in Lines::new(text) {
-        let printed = answer_line(rt.alloc(), line)?;
+        let printed = answer_line(rt.alloc(), Some(line))?;
         println!(rt; "{printed}")?;
     }
     Ok(())

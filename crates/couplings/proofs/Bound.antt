@@ -1,13 +1,14 @@
 -- The discrete Fréchet distance bounds the pairs of couplings: it is what the least coupling costs, where
 -- distances join by the larger.
-use mathlib.Core.Path.{◌≡◌, refl, ◌∙◌, subst}
+use mathlib.Core.Path.{◌≡◌, refl, sym, ◌∙◌, subst}
 use mathlib.Core.List.{List, [], ◌∷◌}
 use mathlib.Core.Bool.{Bool}
 use mathlib.Core.Logic.{◌⊎◌, inl, inr}
+use Prim.Native.Nat.{◌<◌}
 use lib.Dec.{T}
 use lib.ListN.{length}
 use Rattle.std.proofs.lemmas.Bool.{cases_cond}
-use Rattle.couplings.specs.Coupling.{Pair, IsCoupling, Each, Some}
+use Rattle.couplings.specs.Coupling.{Pair, IsCoupling, Among, Each, Some}
 use Rattle.couplings.specs.Rows.{Ordered, larger}
 use Rattle.couplings.specs.Costs.{Costing, onward, worth, SomeCosts, NoneLess}
 use Rattle.couplings.specs.Nearness.{Measure, answers, AtMost, apart_in, Near, Far, Measured, CouplingBound}
@@ -106,7 +107,20 @@ module _ {P V : Type 0} (S : Measure P V) (A B : List P) (m : Measured S A B) wh
       let (p, i, e) = (farthest ps c).1 in
       (p, i, subst (λ (w : V). AtMost S v w) e (h ps c))
 
+  some_found : (v : V) → SomeCosts (by_larger S) A B v
+      → (a b : P) × Among a A × Among b B × (v ≡ S.distance a b)
+  some_found v (ps, c, e) =
+      let (p, i, f) = (farthest ps c).1 in
+      let (h, k) = each_in (length A) (length B) ps c p i in
+      (_, _, among_get_d A p.0 S.point h, among_get_d B p.1 S.point k, sym e ∙ f)
+
 pub coupling_bound : {P V : Type 0} → CouplingBound P V
 coupling_bound S A B h k m =
     let (some, none) = least_coupling (by_larger S) A B h k m in
     (some_near S A B m (answers S A B) some, all_far S A B m (answers S A B) none)
+
+-- the answer is the distance of a point of the one line and a point of the other
+pub answer_found : {P V : Type 0} (S : Measure P V) (A B : List P)
+    → 0 < length A → 0 < length B → Measured S A B
+    → (a b : P) × Among a A × Among b B × (answers S A B ≡ S.distance a b)
+answer_found S A B h k m = some_found S A B m (answers S A B) (least_coupling (by_larger S) A B h k m).0

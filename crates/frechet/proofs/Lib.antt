@@ -6,4 +6,5 @@ pub mod Values
 pub mod Told
 pub mod Couplings
 pub mod Fresh
+pub mod Seeking
 pub mod Asking

@@ -34,12 +34,15 @@ fn allow_row(k: usize, count_1: usize, count_2: usize, cells: usize) -> Result<(
     }
 }
 
-// The point at place k, if there is one.
+// The point at place k, if there is one. `coords_iter().nth(k)` would ask for each point before it too, and a line of a
+// caller's make may work for a point.
+#[tactic(auto, using(crate::proofs::Seeking::nth_least))]
 fn seek<L: CoordsIter>(line: &mut L, k: usize) -> Option<Point>
     ensures line { L.coords line.new ≡ L.coords line.old }
     ensures found { result ≡ slice_get (L.coords line.old) k }
 {
-    line.coords_iter().nth(k)
+    line.seek(k);
+    line.current()
 }
 
 // Row k of a longer and a shorter line.

@@ -95,8 +95,8 @@ fn add(
 }
 
 // What the line asks for, or the fault that tells its number.
-fn command_of(line: Line, number: usize) -> Result<Command, Fault>
-    ensures { CommandOrFault line.entry.bytes.now number result }
+fn command_of(line: Option<Line>, number: usize) -> Result<Command, Fault>
+    ensures { CommandOrFault line.entry number result }
 {
     read_command(line).ok_or_else(|| Fault::new(Cause::Malformed, Layer::Job).at(number))
 }
@@ -135,11 +135,16 @@ impl Job {
         }
     }
 
-    // The printed line of the line with this number. Only want of memory leaves it unanswered, and then
-    // nothing has changed.
-    pub fn answer(&mut self, heap: Global, line: Line, number: usize) -> Result<String, AllocError>
+    // The printed line of the line with this number; where bounds made no line, it is malformed. Only want of memory
+    // leaves it unanswered, and then nothing has changed.
+    pub fn answer(
+        &mut self,
+        heap: Global,
+        line: Option<Line>,
+        number: usize,
+    ) -> Result<String, AllocError>
         ensures { MatchResult result
-            (λ s. Answered line.entry.bytes.now number self.old (string_bytes s) self.new)
+            (λ s. Answered line.entry number self.old (string_bytes s) self.new)
             (λ _. self.new ≡ self.old) }
     {
         match command_of(line, number) {

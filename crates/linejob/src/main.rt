@@ -12,7 +12,7 @@ fn run(rt: &HostRuntime, text: &[u8]) -> io::Result<()> {
     let heap = rt.alloc();
     let mut job = Job::new(heap);
     for (line, number) in Lines::new(text).zip(1..) {
-        let printed = job.answer(heap, line, number)?;
+        let printed = job.answer(heap, Some(line), number)?;
         println!(rt; "{printed}")?;
     }
     Ok(())

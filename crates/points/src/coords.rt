@@ -1,5 +1,5 @@
 // Lines that are walked point by point.
-ghost use Rattle.std.specs.Prelude.{◌≡◌, ℕ, List, length, drop};
+ghost use Rattle.std.specs.Prelude.{◌≡◌, ℕ, min, List, length, drop};
 ghost use Rattle.std.specs.Iterator.{YieldsFirst, item_count};
 ghost use Rattle.std.specs.List.{slice_get};
 ghost use Rattle.points.specs.Walks.{stepped, fits, neighbours, pairs_from};
@@ -30,6 +30,18 @@ pub trait CoordsIter {
         ensures same { coords self.new ≡ coords self.old }
         ensures next { position self.new ≡ stepped (coords self.old)
             (position self.old) };
+
+    // To the point at this place, or to the end where there is none: no point on the way is asked for. A line that need
+    // not step has a way of its own.
+    fn seek(&mut self, place: usize)
+        ensures same { coords self.new ≡ coords self.old }
+        ensures there { position self.new ≡ min place (length (coords self.old)) }
+    {
+        self.rewind();
+        for _ in 0..place {
+            self.advance();
+        }
+    }
 
     // The points from the first on; the line is walked along.
     final fn coords_iter(&mut self) -> Coords<'_, Self>

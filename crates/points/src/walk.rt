@@ -53,4 +53,8 @@ impl<const REVERSED: bool> CoordsIter for Walk<'_, REVERSED> {
             self.at += 1;
         }
     }
+
+    fn seek(&mut self, place: usize) {
+        self.at = place.min(self.points.len());
+    }
 }

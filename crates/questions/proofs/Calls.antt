@@ -1,12 +1,12 @@
 -- What a call with its numbers asks is what its line spells.
-use Rattle.std.proofs.Common.{◌≡◌, ◌≢◌, ℕ, List, [], ◌∷◌, ◌++◌, get_or, codes, sym, ap, ◌∙◌, append_assoc, arith, Some, None, Option, MatchOption}
+use Rattle.std.proofs.Common.{◌≡◌, ◌≢◌, ℕ, List, [], ◌∷◌, ◌++◌, get_or, codes, sym, refl, ap, ◌∙◌, append_assoc, arith, Some, None, Option, MatchOption}
 use lib.Ieee.{Float}
 use Rattle.points.specs.declared.point.Point.{Point}
 use Rattle.std.proofs.lemmas.List.{append_cancel_left}
 use Rattle.questions.specs.Asked.{Asked, Sqrt, Hypot, Sin, Cos, Asin, Atan2}
 use Rattle.questions.specs.Asked.{Distance, Ratio, Along, Length, Frechet}
 use Rattle.questions.specs.Spelling.{numbers_text, coordinates, Words, TwoWords, Spells, Unspelled}
-use Rattle.questions.specs.Reading.{called, NameFirst, Reads, HostCall, PlaneCall, TwoLines}
+use Rattle.questions.specs.Reading.{called, NameFirst, Reads, HostCall, PlaneCall, NoCall, TwoLines}
 use Rattle.questions.proofs.Unique.{layout, named, same_name, same_words}
 
 pub MatchOption-weaker : {A : Type 0} (o : Option A) {P P' : Type 0} {Q Q' : A → Type 0} →
@@ -80,6 +80,42 @@ module _ (line f c r : List ℕ) (name : NameFirst line f c r) where
   no_family host plane (Length ps) s = plane (sym (own_name (Length ps) s).0)
   no_family host plane (Frechet ps qs) s = plane (sym (own_name (Frechet ps qs) s).0)
   no_family host plane q s = host (sym (own_name q s).0)
+
+  -- after the name of no call no line spells a question, but that of the distance of two lines
+  pub no_call : (f ≡ codes "euclidean" → c ≡ codes "frechet" → ⊥) → NoCall f c → Unspelled line
+  no_call other none (Distance p q) s =
+      let own = own_name (Distance p q) s in
+      (none (layout (Distance p q)).first (Distance p q)).1 (sym own.0) (sym own.1, refl)
+  no_call other none (Ratio t p q) s =
+      let own = own_name (Ratio t p q) s in
+      (none (layout (Ratio t p q)).first (Ratio t p q)).1 (sym own.0) (sym own.1, refl)
+  no_call other none (Along d p q) s =
+      let own = own_name (Along d p q) s in
+      (none (layout (Along d p q)).first (Along d p q)).1 (sym own.0) (sym own.1, refl)
+  no_call other none (Length ps) s =
+      let own = own_name (Length ps) s in
+      (none (layout (Length ps)).first (Length ps)).1 (sym own.0) (sym own.1, refl)
+  no_call other none (Frechet ps qs) s =
+      let own = own_name (Frechet ps qs) s in
+      other (sym own.0) (sym own.1)
+  no_call other none (Sqrt x) s =
+      let own = own_name (Sqrt x) s in
+      (none (layout (Sqrt x)).first (Sqrt x)).0 (sym own.0) (sym own.1, refl)
+  no_call other none (Hypot x y) s =
+      let own = own_name (Hypot x y) s in
+      (none (layout (Hypot x y)).first (Hypot x y)).0 (sym own.0) (sym own.1, refl)
+  no_call other none (Sin x) s =
+      let own = own_name (Sin x) s in
+      (none (layout (Sin x)).first (Sin x)).0 (sym own.0) (sym own.1, refl)
+  no_call other none (Cos x) s =
+      let own = own_name (Cos x) s in
+      (none (layout (Cos x)).first (Cos x)).0 (sym own.0) (sym own.1, refl)
+  no_call other none (Asin x) s =
+      let own = own_name (Asin x) s in
+      (none (layout (Asin x)).first (Asin x)).0 (sym own.0) (sym own.1, refl)
+  no_call other none (Atan2 y x) s =
+      let own = own_name (Atan2 y x) s in
+      (none (layout (Atan2 y x)).first (Atan2 y x)).0 (sym own.0) (sym own.1, refl)
 
   by_call : (f' c' : List ℕ) (xs ys : List Float) → f ≡ f' → Words r [] xs → c ≡ c' → xs ≡ ys →
       Words line (f' ++ (32 ∷ c')) ys

@@ -1,5 +1,5 @@
 -- The two words of a name, one after the other.
-use Rattle.std.proofs.Common.{◌≡◌, ℕ, List, ◌∷◌, ◌++◌, ◌<◌, codes, sym, refl, ap, ◌∙◌, rules}
+use Rattle.std.proofs.Common.{◌≡◌, ℕ, List, ◌∷◌, ◌++◌, ◌<◌, ◌≤◌, codes, length, sym, refl, ap, ◌∙◌, subst, rules, arith}
 use Rattle.std.proofs.lemmas.List.{append_cancel_left}
 use Rattle.std.specs.Str.{IsUtf8}
 use Rattle.std.proofs.lemmas.Str.{IsUtf8-from_ascii}
@@ -43,3 +43,32 @@ utf8_family q = (utf8_words q).0
 
 pub utf8_call : (q : Asked) → IsUtf8 (layout q).call
 utf8_call q = (utf8_words q).1
+
+-- no word of a name has more than nine bytes
+short_words : (q : Asked) → (length (layout q).family ≤ 9) × (length (layout q).call ≤ 9)
+short_words (Sqrt x) = (search rules, search rules)
+short_words (Hypot x y) = (search rules, search rules)
+short_words (Sin x) = (search rules, search rules)
+short_words (Cos x) = (search rules, search rules)
+short_words (Asin x) = (search rules, search rules)
+short_words (Atan2 y x) = (search rules, search rules)
+short_words (Distance p q) = (search rules, search rules)
+short_words (Ratio t p q) = (search rules, search rules)
+short_words (Along d p q) = (search rules, search rules)
+short_words (Length ps) = (search rules, search rules)
+short_words (Frechet ps qs) = (search rules, search rules)
+
+-- so a word that is passed over is none of a name
+pub not_family : (q : Asked) (word : List ℕ) → word ≡ (layout q).family → (IsUtf8 word → 9 < length word) → ⊥
+not_family q word same long =
+    let short = (short_words q).0 in
+    let over = long (subst IsUtf8 (sym same) (utf8_family q)) in
+    let equal = ap length same in
+    omega (arith, short, over, equal)
+
+pub not_call : (q : Asked) (word : List ℕ) → word ≡ (layout q).call → (IsUtf8 word → 9 < length word) → ⊥
+not_call q word same long =
+    let short = (short_words q).1 in
+    let over = long (subst IsUtf8 (sym same) (utf8_call q)) in
+    let equal = ap length same in
+    omega (arith, short, over, equal)

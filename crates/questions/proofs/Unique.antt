@@ -1,5 +1,5 @@
 -- A line spells one question at most.
-use Rattle.std.proofs.Common.{◌≡◌, ℕ, suc, cond, ◌⊎◌, List, [], ◌∷◌, ◌++◌, length, get_or, drop, codes, sym, refl, ap, ◌∙◌, subst, inl, inr, ⊎_elim, append_assoc, append-nil, arith}
+use Rattle.std.proofs.Common.{◌≡◌, ℕ, suc, cond, ◌⊎◌, List, [], ◌∷◌, ◌++◌, length, get_or, drop, codes, sym, refl, ap, ◌∙◌, subst, inl, inr, ⊎_elim, append_assoc, append-nil, arith, Option, None, Some}
 use lib.Ieee.{Float, nan}
 use Rattle.std.proofs.lemmas.List.{append_cancel_left}
 use Rattle.std.specs.Str.{bytes_eq}
@@ -10,8 +10,9 @@ use Rattle.points.specs.declared.point.Point.{Point}
 use Rattle.questions.specs.Asked.{Asked, Sqrt, Hypot, Sin, Cos, Asin, Atan2}
 use Rattle.questions.specs.Asked.{Distance, Ratio, Along, Length, Frechet}
 use Rattle.questions.specs.Spelling.{numbers_text, AllSized, floats, coordinates}
-use Rattle.questions.specs.Spelling.{Words, Spells, Unspelled}
-use Rattle.questions.specs.Reading.{called, NameFirst}
+use Rattle.questions.specs.Spelling.{Words, Spells}
+use Rattle.questions.specs.Reading.{called, NameFirst, SpellsAt}
+use Rattle.text.specs.declared.line.Line.{Line}
 use Rattle.std.specs.Fmt.{digits}
 use Rattle.points.specs.declared.fault.Cause.TheVariants.{Malformed}
 use Rattle.questions.specs.declared.ask.Answer.TheVariants as answers
@@ -214,15 +215,19 @@ unique line q q' w w' =
     ∙ ap (λ ys. build (layout q').family (layout q').call (layout q').first ys) same.1
     ∙ built q'
 
+unique_at : (line : Option Line) (q q' : Asked) → SpellsAt line q → SpellsAt line q' → q ≡ q'
+unique_at None q q' w w' = absurd w
+unique_at (Some l) q q' w w' = unique l.bytes.now q q' w w'
+
 -- what is printed for the question that was read, and where none was
-pub answers_it : (line : List ℕ) (q : Asked) (out : List ℕ) →
-    Spells line q → out ≡ printed (answer_to q) → Answered line out
+pub answers_it : (line : Option Line) (q : Asked) (out : List ℕ) →
+    SpellsAt line q → out ≡ printed (answer_to q) → Answered line out
 answers_it line q out read e = record {
-  asked = λ q' w. e ∙ ap (λ a. printed (answer_to a)) (unique line q q' read w);
+  asked = λ q' w. e ∙ ap (λ a. printed (answer_to a)) (unique_at line q q' read w);
   malformed = λ none. absurd (none q read);
 }
 
-pub refuses_it : (line out : List ℕ) → Unspelled line → out ≡ malformed_text → Answered line out
+pub refuses_it : (line : Option Line) (out : List ℕ) → ((q : Asked) → SpellsAt line q → ⊥) → out ≡ malformed_text → Answered line out
 refuses_it line out none e = record {
   asked = λ q w. absurd (none q w);
   malformed = λ _. e;

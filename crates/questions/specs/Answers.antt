@@ -14,7 +14,8 @@ use Rattle.measures.specs.Length.{length_of}
 use Rattle.frechet.specs.Table.{frechet}
 use Rattle.questions.specs.Asked as asks
 use Rattle.questions.specs.Asked.{Asked}
-use Rattle.questions.specs.Spelling.{Spells, Unspelled}
+use Rattle.questions.specs.Reading.{SpellsAt}
+use Rattle.text.specs.declared.line.Line.{Line}
 use Rattle.questions.specs.declared.ask.Answer.{Answer}
 use Rattle.questions.specs.declared.ask.Answer.TheVariants as answers
 
@@ -73,9 +74,9 @@ printed (answers.Refused cause) = codes "refused " ++ decimal (number_of cause)
 abbrev pub malformed_text : List ℕ
 malformed_text = codes "refused 14"
 
--- what is printed for the line
-pub record Answered (line out : List ℕ) : Type 0 where
+-- what is printed for the part of a text
+pub record Answered (line : Option Line) (out : List ℕ) : Type 0 where
   -- where it spells a question, the answer to that
-  pub asked : (q : Asked) → Spells line q → out ≡ printed (answer_to q)
+  pub asked : (q : Asked) → SpellsAt line q → out ≡ printed (answer_to q)
   -- where it spells none, a refusal
-  pub malformed : Unspelled line → out ≡ malformed_text
+  pub malformed : ((q : Asked) → SpellsAt line q → ⊥) → out ≡ malformed_text

@@ -1,10 +1,11 @@
 -- Defines what is read of a line: the name of a call, numbers, and what a call asks.
-use Rattle.std.specs.Prelude.{◌≡◌, ℕ, List, [], ◌∷◌, ◌++◌, codes, Option, MatchOption, Float}
+use Rattle.std.specs.Prelude.{◌≡◌, ℕ, List, [], ◌∷◌, ◌++◌, codes, Option, None, Some, MatchOption, Float}
 use Rattle.text.specs.Grammar.{Parted, NoNumber}
 use Rattle.text.specs.Lines.{front}
 use Rattle.questions.specs.Asked.{Asked, Sqrt, Hypot, Sin, Cos, Asin, Atan2}
 use Rattle.questions.specs.Asked.{Distance, Ratio, Along, Length, Frechet}
-use Rattle.questions.specs.Spelling.{numbers_text, AllSized, floats, coordinates, TwoWords}
+use Rattle.questions.specs.Spelling.{numbers_text, AllSized, floats, coordinates, TwoWords, Spells}
+use Rattle.text.specs.declared.line.Line.{Line}
 
 -- a line by the two words of a name and what is left after them
 abbrev pub called : List ℕ → List ℕ → List ℕ → List ℕ
@@ -51,3 +52,14 @@ PlaneCall call xs _ = ⊥
 abbrev pub TwoLines : List ℕ → Asked → Type 0
 TwoLines text (Frechet ps qs) = TwoWords text [] (coordinates ps) (coordinates qs)
 TwoLines text _ = ⊥
+
+-- no numbers after this name ask anything, of the host or of the plane
+abbrev pub NoCall : List ℕ → List ℕ → Type 0
+NoCall family call =
+    (xs : List Float) (q : Asked) →
+    (family ≡ codes "host" → HostCall call xs q → ⊥) × (family ≡ codes "euclidean" → PlaneCall call xs q → ⊥)
+
+-- the part of a text is a line that spells q; where its bounds make no line, it spells nothing
+abbrev pub SpellsAt : Option Line → Asked → Type 0
+SpellsAt None q = ⊥
+SpellsAt (Some l) q = Spells l.bytes.now q

@@ -8,9 +8,9 @@ use points::fault::Cause;
 use std::alloc::{AllocError, Global};
 use text::line::Line;
 
-// The answer to the question that the line spells; where it spells none, a refusal.
-pub fn answer_line(heap: Global, line: Line) -> Result<String, AllocError>
-    ensures { IfOk result (λ s. Answered line.entry.bytes.now (string_bytes s)) }
+// The answer to the question that the line spells; where it spells none, or bounds made no line, a refusal.
+pub fn answer_line(heap: Global, line: Option<Line>) -> Result<String, AllocError>
+    ensures { IfOk result (λ s. Answered line.entry (string_bytes s)) }
 {
     let answer = match read_question(heap, line)? {
         Some(question) => ask(heap, question)?,

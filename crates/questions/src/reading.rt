@@ -1,8 +1,8 @@
 // The question that a line spells.
-ghost use Rattle.std.specs.Prelude.{IfOk};
+ghost use Rattle.std.specs.Prelude.{◌≡◌, false, IfOk};
 ghost use Rattle.questions.specs.Asked.{asked};
 ghost use Rattle.questions.specs.Spelling.{Spells};
-ghost use Rattle.questions.specs.Reading.{Reads, HostCall, PlaneCall};
+ghost use Rattle.questions.specs.Reading.{Reads, HostCall, PlaneCall, NoCall, SpellsAt};
 
 use crate::arguments::{frechet_question, numbers, points_of};
 use crate::name::split_name;
@@ -43,8 +43,20 @@ fn plane_question(heap: Global, call: &str, numbers: &[f64]) -> Result<Option<Qu
     })
 }
 
-// The question of a call that is found by its name, so that one more is a line more.
-pub(crate) fn read_question(heap: Global, line: Line) -> Result<Option<Question>, AllocError>
+// Whether this names a call that takes numbers and nothing else.
+fn takes_numbers(family: &str, call: &str) -> bool
+    ensures { result ≡ false → NoCall family.now call.now }
+{
+    match family {
+        "host" => matches!(call, "sqrt" | "hypot" | "sin" | "cos" | "asin" | "atan2"),
+        "euclidean" => matches!(call, "distance" | "ratio" | "along" | "length"),
+        _ => false,
+    }
+}
+
+// The question of a call that is found by its name. The name is looked at first: what stands after another one is not
+// read, and takes no memory.
+fn question_of(heap: Global, line: Line) -> Result<Option<Question>, AllocError>
     ensures { IfOk result (Reads asked (Spells line.entry.bytes.now)) }
 {
     let Some((family, call, rest)) = split_name(line) else {
@@ -53,6 +65,9 @@ pub(crate) fn read_question(heap: Global, line: Line) -> Result<Option<Question>
     if family == "euclidean" && call == "frechet" {
         return frechet_question(heap, rest);
     }
+    if !takes_numbers(family, call) {
+        return Ok(None);
+    }
     let Some(numbers) = numbers(heap, rest)? else {
         return Ok(None);
     };
@@ -60,5 +75,18 @@ pub(crate) fn read_question(heap: Global, line: Line) -> Result<Option<Question>
         "host" => Ok(host_question(call, numbers.as_slice())),
         "euclidean" => plane_question(heap, call, numbers.as_slice()),
         _ => Ok(None),
+    }
+}
+
+// The question that a line spells; where bounds made no line, there is none.
+pub(crate) fn read_question(
+    heap: Global,
+    line: Option<Line>,
+) -> Result<Option<Question>, AllocError>
+    ensures { IfOk result (Reads asked (SpellsAt line.entry)) }
+{
+    match line {
+        Some(line) => question_of(heap, line),
+        None => Ok(None),
     }
 }

@@ -1,5 +1,5 @@
 // A place in the line of a table, and the single moves of which every edit is made.
-ghost use Rattle.std.specs.Prelude.{◌≡◌, ◌+◌, ◌<◌, length, slice_set};
+ghost use Rattle.std.specs.Prelude.{◌≡◌, ◌==◌, ◌+◌, ◌<◌, length, slice_set};
 ghost use Rattle.table.specs.Append.{last_index};
 ghost use Rattle.table.specs.Chains.{at as record_at};
 ghost use Rattle.table.specs.Links.{numbered, link_table, link_head};
@@ -74,6 +74,14 @@ impl<'a> Cursor<'a> {
         ensures { result ≡ record_at self.now.table.now self.now.here }
     {
         self.table[usize::from(self.here)]
+    }
+
+    // Whether the record here came with this edit.
+    pub(crate) fn is_of(&self, edit: u8) -> bool
+        requires { self.now.here < length self.now.table.now }
+        ensures { result ≡ ((record_at self.now.table.now self.now.here).edit == edit) }
+    {
+        self.record().edit == edit
     }
 
     // On behind the record here.

@@ -20,7 +20,7 @@ pub fn undo(table: &mut [Record], head: &mut Head) -> Result<(), Fault>
     let mut cursor = Cursor::start(table, head);
     // No iterator lends the records, as an edit writes where it walks.
     for _ in 0..count {
-        if cursor.record().edit == newest {
+        if cursor.is_of(newest) {
             cursor.remove();
         } else {
             cursor.step();

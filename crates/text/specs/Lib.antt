@@ -3,3 +3,4 @@ pub mod Lines
 pub mod Grammar
 pub mod Printed
 pub mod Steps
+pub mod Parts

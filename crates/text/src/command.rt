@@ -1,6 +1,7 @@
 // The commands of a job, one to a line: `R x y`, `A x y` and `C`.
 ghost use Rattle.std.specs.Prelude.{◌≡◌, ℕ, ◌^◌, ◌<◌, ◌∷◌, ◌++◌, MatchOption, ◌≢◌};
 ghost use Rattle.text.specs.Grammar.{spaced, Unspelled, CommandOf};
+ghost use Rattle.text.specs.Parts.{NoCommand, CommandAt};
 
 use crate::line::Line;
 use crate::words::Word;
@@ -13,8 +14,14 @@ pub enum Command {
     Compare,
 }
 
-// The command that a line spells.
-pub fn read_command(line: Line) -> Option<Command>
+// The command that a line spells; where bounds made no line, there is none.
+pub fn read_command(line: Option<Line>) -> Option<Command>
+    ensures { MatchOption result (NoCommand line.entry) (CommandAt line.entry) }
+{
+    command_of(line?)
+}
+
+fn command_of(line: Line) -> Option<Command>
     ensures { MatchOption result (Unspelled line.entry.bytes.now) (CommandOf line.entry.bytes.now) }
 {
     let (Word::Letter([name], _), rest) = line.split_word()? else {

@@ -1,13 +1,17 @@
 // Reads a program's input into a buffer.
-ghost use Rattle.std.specs.Prelude.{◌≡◌, ◌≤◌, length, take, vec_len, IfOk, IfSome};
+ghost use Rattle.std.specs.Prelude.{◌≡◌, ◌<◌, ◌≤◌, length, take, vec_len, IfOk, IfSome};
+ghost use Rattle.std.specs.Io.KnownBytes.{Consumes, IsAtEnd};
 
 use std::alloc::Global;
 use std::io;
 use std::io::Read;
 
-// Reads until the buffer is full or the input ends, and tells how much was read.
-pub fn fill(input: &mut impl Read, buffer: &mut [u8]) -> io::Result<usize>
-    ensures { IfOk result (λ n. n ≤ length buffer.old) }
+// Reads until the buffer is full or the input ends, and tells how much was read. Of a reader that tells its bytes
+// these are its first ones, and no others are taken from it.
+pub fn fill<R: Read>(input: &mut R, buffer: &mut [u8]) -> io::Result<usize>
+    ensures within { IfOk result (λ n. n ≤ length buffer.old) }
+    ensures bytes { IfOk result (λ n. Consumes (R.remaining input.old) (R.remaining input.new) (take n buffer.new)) }
+    ensures whole { IfOk result (λ n. n < length buffer.old → IsAtEnd (R.remaining input.new)) }
 {
     // A read may give fewer bytes than it is asked for, so their count is no index of a loop over the buffer.
     let mut count = 0;
@@ -21,14 +25,14 @@ pub fn fill(input: &mut impl Read, buffer: &mut [u8]) -> io::Result<usize>
     Ok(count)
 }
 
-// The input, up to so many bytes of it.
+// The input, up to so many bytes of it. They are read into that much room, so that a longer input takes no more.
 pub fn read_at_most<R: Read>(heap: Global, input: &mut R, most: usize) -> io::Result<Vec<u8>>
     ensures bound { IfOk result (λ v. vec_len v ≤ most) }
+    ensures taken { IfOk result (λ v. Consumes (R.remaining input.old) (R.remaining input.new) v.items) }
     ensures bytes { IfOk result (λ v. IfSome (R.remaining input.old) (λ xs. v.items ≡ take most xs)) }
 {
-    let mut bytes = Vec::new(heap);
-    input.take(most as u64).read_to_end(&mut bytes)?;
-    // It has no more; but what bounds an unknown reader's bytes is no clause of `read_to_end`.
-    bytes.truncate(most);
+    let mut bytes = vec![in heap; 0u8; most]?;
+    let count = fill(input, &mut bytes)?;
+    bytes.truncate(count);
     Ok(bytes)
 }

@@ -9,7 +9,7 @@ use Rattle.questions.proofs.answer.answer_line.Goals.{in-Some+in_ok-answer-in-So
 
 pub returns : goal.returns
 returns c =
-    let line = c.args.line.bytes.now in
+    let line = c.args.line in
     IfOk-weaker c.format.result _ _
     (λ s e.
     elim c.match-branch-2.branch [

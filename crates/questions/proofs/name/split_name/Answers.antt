@@ -1,8 +1,7 @@
-use Rattle.std.proofs.Common.{◌∷◌, ◌++◌, sym, ap, drop, ◌∙◌, subst}
-use Rattle.std.specs.Str.{IsUtf8}
+use Rattle.std.proofs.Common.{◌∷◌, ◌++◌, sym, ap, drop, ◌∙◌}
 use Rattle.text.specs.Lines.{front}
 use Rattle.text.proofs.Numbers.{front_word, front_front}
-use Rattle.questions.proofs.Names.{front_family, after_family, utf8_family, utf8_call}
+use Rattle.questions.proofs.Names.{front_family, after_family, not_family, not_call}
 use Rattle.questions.proofs.Unique.{layout, named}
 use Rattle.questions.proofs.name.split_name.Goals as goal
 
@@ -10,7 +9,7 @@ pub returns-in_err-family : goal.returns-in_err-family
 returns-in_err-family c =
     rw c.from_residual.ensures (λ q w.
     let name = (named c.args.line.bytes.now q w).1 in
-    c.in_err-family.ensures (subst IsUtf8 (sym (front_family _ _ _ _ name)) (utf8_family q)))
+    not_family q _ (front_family _ _ _ _ name) c.in_err-family.ensures)
 
 pub returns-in_err-strip_prefix : goal.returns-in_err-strip_prefix
 returns-in_err-strip_prefix c =
@@ -28,7 +27,7 @@ returns-in_err-call c =
     let after = after_family _ _ _ _ _ c.in_ok-family.rest.bytes.now name read.0 read.1 in
     let call = ap (drop 1) (sym c.in_ok-strip_prefix.ensures.0 ∙ after) in
     let word = ap front call ∙ front_word (layout q).call own.0 name.second name.parted in
-    c.in_err-call.ensures (subst IsUtf8 (sym word) (utf8_call q)))
+    not_call q _ word c.in_err-call.ensures)
 
 pub returns : goal.returns
 returns c =

@@ -1,8 +1,9 @@
-use Rattle.std.proofs.Common.{sym, refl, ap, ◌∙◌, arith, rules, ltb-true}
+use Rattle.std.proofs.Common.{sym, refl, ◌∙◌, arith, rules, ltb-true, eqb-true}
+use borrow.Author.Tests.{eqb-false}
 use Rattle.points.proofs.Placing.{ensured_holds}
 use Rattle.table.proofs.Undoing as undoing
 use Rattle.table.proofs.undo.undo.Goals as goal
-use Rattle.table.proofs.undo.undo.Goals.{then-record-newest, else-record-newest}
+use Rattle.table.proofs.undo.undo.Goals.{then-is_of, else-is_of}
 
 pub loop-init : goal.loop-init
 loop-init c =
@@ -16,8 +17,8 @@ loop-init c =
           e.before e.here refl;
     }
 
-pub record-requires : goal.record-requires
-record-requires c =
+pub is_of-requires : goal.is_of-requires
+is_of-requires c =
     (undoing.undo_inside c.args.table.now c.args.head.now _ _ _ _ _ c.loop.invariant.undoing (omega arith)).1
 
 pub remove-requires : goal.remove-requires
@@ -35,23 +36,22 @@ loop-preserved c =
     let t0 = c.args.table.now in
     let h0 = c.args.head.now in
     let u = c.loop.invariant in
-    let ed = ap (λ r. r.edit) c.record.ensures in
-    elim c.if-record-newest.branch [
-      | then-record-newest w ↦
+    elim c.if-is_of.branch [
+      | then-is_of w ↦
           let e = w.remove.ensures in
           rw w.cursor-is (record {
             same = (e.same.0 ∙ u.same.0, e.same.1 ∙ u.same.1);
             undoing = undoing.undo_at t0 h0 _ _ _ _ _
-                (undoing.undo_drop t0 h0 _ _ _ _ _ u.undoing (omega arith) (sym ed ∙ w.if-record-newest.true))
+                (undoing.undo_drop t0 h0 _ _ _ _ _ u.undoing (omega arith) (eqb-true _ _ (sym w.if-is_of.ensures)))
                 _ _ _ _ _ e.table e.head e.before e.here (omega arith);
           })
-      | else-record-newest w ↦
+      | else-is_of w ↦
           let e = w.step.ensures in
           rw w.cursor-is (record {
             same = (e.same.0 ∙ u.same.0, e.same.1 ∙ u.same.1);
             undoing = undoing.undo_at t0 h0 _ _ _ _ _
                 (undoing.undo_keep t0 h0 _ _ _ _ _ u.undoing (omega arith)
-                (λ q. w.if-record-newest.false (ed ∙ q)))
+                (eqb-false _ _ (sym w.if-is_of.ensures)))
                 _ _ _ _ _ e.table e.head e.before e.here (omega arith);
           })
     ]

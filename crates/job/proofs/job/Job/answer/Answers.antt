@@ -6,6 +6,6 @@ use Rattle.job.proofs.job.Job.answer.Goals as goal
 pub returns-in-Ok : goal.returns-in-Ok
 returns-in-Ok c =
     MatchResult-weaker c.reply.result c.reply.ensures
-    (λ s r. answers_command c.args.line.bytes.now c.args.number c.args.self.now (string_bytes s)
+    (λ s r. answers_command c.args.line c.args.number c.args.self.now (string_bytes s)
     c.reply.new.self c.in-Ok.command c.in-Ok.ensures r)
     (λ _ same. same)

@@ -1,6 +1,6 @@
 use Rattle.std.proofs.Common.{rules}
 use Rattle.text.proofs.Commands.{spelled_letter, number_unspelled}
-use Rattle.text.proofs.command.read_command.Goals as goal
+use Rattle.text.proofs.command.command_of.Goals as goal
 
 pub returns-in_err-split_word : goal.returns-in_err-split_word
 returns-in_err-split_word c =

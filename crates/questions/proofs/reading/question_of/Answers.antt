@@ -4,9 +4,9 @@ use Rattle.std.proofs.lemmas.Result.{IfOk-weaker}
 use Rattle.questions.specs.Asked.{asked}
 use Rattle.questions.specs.Reading.{HostCall, PlaneCall, TwoLines}
 use Rattle.questions.specs.Spelling.{Spells, Words}
-use Rattle.questions.proofs.Calls.{reads_as, no_numbers, no_family, host_spells, host_called, plane_spells, plane_called, two_spells, two_called}
-use Rattle.questions.proofs.reading.read_question.Goals as goal
-use Rattle.questions.proofs.reading.read_question.Goals.{else-eq-via-then-eq+else-eq-2, else-eq-via-else-eq}
+use Rattle.questions.proofs.Calls.{reads_as, no_numbers, no_call, no_family, host_spells, host_called, plane_spells, plane_called, two_spells, two_called}
+use Rattle.questions.proofs.reading.question_of.Goals as goal
+use Rattle.questions.proofs.reading.question_of.Goals.{else-eq-via-then-eq+else-eq-2, else-eq-via-else-eq}
 
 pub returns-then-eq-2 : goal.returns-then-eq-2
 returns-then-eq-2 c =
@@ -19,6 +19,13 @@ returns-then-eq-2 c =
     (two_spells line _ _ rest name (search rules) (search rules))
     (two_called line _ _ rest name (search rules) (search rules)))
     c.frechet_question.ensures
+
+pub returns-then-not-takes_numbers : goal.returns-then-not-takes_numbers
+returns-then-not-takes_numbers c =
+    no_call c.args.line.bytes.now _ _ _ c.in-Some.ensures
+    (λ e g.
+    elim c.else-eq.branch [ else-eq-via-then-eq+else-eq-2 w ↦ search rules | else-eq-via-else-eq w ↦ search rules ])
+    (c.takes_numbers.ensures c.if-not-takes_numbers.true)
 
 pub returns-in_default-2 : goal.returns-in_default-2
 returns-in_default-2 c =
