@@ -37,8 +37,9 @@ pub trait CoordsIter {
         ensures same { coords self.new ≡ coords self.old }
         ensures there { position self.new ≡ min place (length (coords self.old)) }
     {
+        let steps = place.min(self.coords_count());
         self.rewind();
-        for _ in 0..place {
+        for _ in 0..steps {
             self.advance();
         }
     }
