@@ -5,7 +5,7 @@ use points::fault::Cause;
 use questions::answer::answer_line;
 use questions::ask::Answer;
 use std::io;
-use text::input::read_at_most;
+use text::input::read_into_room;
 use text::lines::Lines;
 
 // The longest input, in bytes.
@@ -21,7 +21,7 @@ fn run(rt: &HostRuntime, text: &[u8]) -> io::Result<()> {
 
 fn main(rt: HostRuntime) -> io::Result<()> {
     // One byte more than an input may have, so that a longer one is seen.
-    let text = read_at_most(rt.alloc(), &mut rt.stdin(), LONGEST_INPUT + 1)?;
+    let text = read_into_room(rt.alloc(), &mut rt.stdin(), LONGEST_INPUT + 1)?;
     if text.len() > LONGEST_INPUT {
         let refusal = Answer::Refused(Cause::Malformed);
         return println!(rt; "{refusal}");

@@ -10,6 +10,8 @@ mod frechet_examples;
 mod plan_examples;
 #[cfg(test)]
 mod plane_examples;
+#[cfg(test)]
+mod reading_examples;
 
 #[cfg(test)]
 fn at(x: f64, y: f64) -> Point {

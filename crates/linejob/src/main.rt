@@ -4,7 +4,7 @@
 use job::answer::{LONGEST_JOB, check_length};
 use job::job::Job;
 use std::io;
-use text::input::read_at_most;
+use text::input::read_into_room;
 use text::lines::Lines;
 use text::printed::malformed_line;
 
@@ -21,7 +21,7 @@ fn run(rt: &HostRuntime, text: &[u8]) -> io::Result<()> {
 fn main(rt: HostRuntime) -> io::Result<()> {
     let heap = rt.alloc();
     // One byte more than a job may have, so that a longer one is seen.
-    let text = read_at_most(heap, &mut rt.stdin(), LONGEST_JOB + 1)?;
+    let text = read_into_room(heap, &mut rt.stdin(), LONGEST_JOB + 1)?;
     match check_length(text.len()) {
         Ok(()) => run(&rt, &text),
         Err(fault) => {

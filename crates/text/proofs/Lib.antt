@@ -5,5 +5,6 @@ pub mod Commands
 pub mod Choice
 pub mod Digits
 pub mod Padded
+pub mod Limited
 pub mod Unique
 pub mod Filled
