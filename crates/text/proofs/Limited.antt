@@ -1,4 +1,4 @@
--- What a reader gives up to a limit.
+-- What a reader gives, up to a limit.
 use Rattle.std.proofs.Common.{◌≡◌, ℕ, List, take, ap, ◌∙◌, arith, Option, None, Some, IfSome}
 use Rattle.std.specs.Option.{option_map}
 use Rattle.std.proofs.lemmas.List.{take-take}

@@ -46,7 +46,7 @@ pub fn read_into_room<R: Read>(heap: Global, input: &mut R, most: usize) -> io::
 pub fn read_at_most<R: Read>(heap: Global, input: &mut R, most: usize) -> io::Result<Vec<u8>>
     ensures bound { IfOk result (λ v. vec_len v ≤ most) }
     ensures bytes { IfOk result (λ v. IfSome (R.remaining input.old) (λ xs. v.items ≡ take most xs)) }
-    ensures retried { IfErr result (λ e. error_kind e ≢ Interrupted) }
+    ensures not_interrupted { IfErr result (λ e. error_kind e ≢ Interrupted) }
 {
     let mut bytes = Vec::new(heap);
     input.take(most as u64).read_to_end(&mut bytes)?;
